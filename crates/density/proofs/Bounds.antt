@@ -11,12 +11,14 @@ use borrow.Author.Tests.{eq-eqb}
 use Rattle.counting.specs.Counting.{In, bit}
 use Rattle.counting.proofs.Counts.{most-le, pigeonhole, ceil-le}
 use Rattle.grid.specs.Grid.{Grid, west, east, columnOf}
-use Rattle.grid.specs.Legal.{Pins, Wiring, Held, Linked, Legal, topNet, box, GridOf, Bare}
-use Rattle.grid.specs.Motion.{turned, turn, movedPins, movedWiring}
+use Rattle.grid.specs.Legal.{Pins, Wiring, Held, Linked, Legal, topNet, box, GridOf}
+use Rattle.grid.proofs.Pins.{Bare}
+use Rattle.grid.proofs.Motion.{turned, turn, movedPins, movedWiring}
 use Rattle.grid.proofs.Motions.{turn-legal}
-use Rattle.density.specs.Density.{passes, across, up, horizontals, verticals, tracksFor, floor, floorOf}
+use Rattle.density.specs.Density.{passes, passesAt, across, up, horizontals, verticals, tracksFor, floor, floorOf}
 use Rattle.density.specs.Rivals.{Narrowest, Lowest}
 use Rattle.density.proofs.Free.{across-free, floor-box}
+use Rattle.density.proofs.Tracks.{up-turned}
 use Rattle.density.proofs.Layers.{horizontals-are, verticals-are, halves}
 use Rattle.density.proofs.Pinned.{Pinned, node, passes-iff}
 use Rattle.density.proofs.Crossing.{Crosses, crossing}
@@ -46,7 +48,7 @@ module _ (g : Grid) (p : Pins) (x : Wiring) (y : Legal g p x) where
           (j, l, ij, il, eq-eqb _ _ f, q)
 
 pub up-fits : (g : Grid) (p : Pins) (x : Wiring) → Legal g p x → up g p ≤ verticals g * g .n
-up-fits g p x y = rw (verticals-are g, ← horizontals-are (turned g)) (across-fits (turned g) (movedPins turn p) (movedWiring turn x) (turn-legal g p x .0 y))
+up-fits g p x y = rw (up-turned g p, verticals-are g, ← horizontals-are (turned g)) (across-fits (turned g) (movedPins turn p) (movedWiring turn x) (turn-legal g p x .0 y))
 
 module _ (g : Grid) (p : Pins) (x : Wiring) (y : Legal g p x) where
   -- with at most h horizontal layers the grid has at least so many tracks

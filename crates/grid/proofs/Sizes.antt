@@ -11,7 +11,7 @@ use borrow.Author.Tests.{eqb-true, leb-true}
 use Rattle.counting.specs.Counting.{In}
 use Rattle.counting.proofs.Sums.{split}
 use Rattle.grid.specs.declared.Refusal.{Refusal}
-use Rattle.grid.specs.View.{longestSide, mostLayers, within, refusal, accepted, unless, viewRefusal}
+use Rattle.grid.specs.View.{longestSide, mostLayers, within, refusal, unless, viewRefusal}
 
 pub area-le : (n w : ℕ) → n ≤ longestSide → w ≤ longestSide → n * w ≤ 8100
 area-le n w a b = mul-le-mul a b
@@ -47,9 +47,9 @@ pub viewed : (x : List ℕ) (n w k l : ℕ) → viewRefusal x n w k l .number �
 unfolding viewRefusal
 viewed x n w k l e =
     let (a, f) = passed (within n longestSide && within w longestSide && within k mostLayers) (refusal 11 0)
-    (unless (eqb (length x) (n * w * k)) (refusal 12 (n * w * k)) (unless (within l k) (refusal 16 l) accepted)) (λ z. omega arith) e in
-    let (b, d) = passed (eqb (length x) (n * w * k)) (refusal 12 (n * w * k)) (unless (within l k) (refusal 16 l) accepted) (λ z. omega arith) f in
-    let (c, _) = passed (within l k) (refusal 16 l) accepted (λ z. omega arith) d in
+    (unless (eqb (length x) (n * w * k)) (refusal 12 (n * w * k)) (unless (within l k) (refusal 16 l) (refusal 0 0))) (λ z. omega arith) e in
+    let (b, d) = passed (eqb (length x) (n * w * k)) (refusal 12 (n * w * k)) (unless (within l k) (refusal 16 l) (refusal 0 0)) (λ z. omega arith) f in
+    let (c, _) = passed (within l k) (refusal 16 l) (refusal 0 0) (λ z. omega arith) d in
     record { grid = sized n w k a; whole = eqb-true _ _ b; level = within-in l k c }
 
 -- a row of the buffer, and the points before it, are within the buffer

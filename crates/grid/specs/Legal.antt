@@ -1,7 +1,6 @@
 -- When a wiring is legal, which wirings a ticket has, and where a buffer holds a wiring.
 --
 --   Pins                 the net at each place of each side, 0 where it is empty; "A pin place is empty or holds a net number"
---   Bare p s             side s has no pins; "A row may have bit 0, a channel bits 0 and 1, a box all four"
 --   Wiring               the net at each column, track and layer; "A wiring gives each point 0 or a net number"
 --   holds p x u          the net at node u, a pin or a point
 --   Held g p x m u       u is in the grid and holds net m
@@ -9,7 +8,6 @@
 --   Legal g p x          "every nonzero point holds a net of the ticket and, for each net, its pins and points form one joined piece"
 --   topNet               the largest net number; "one net number, 1 to 180"
 --   nets t               how many nets pass the test t; "the largest number of nets any column must pass"
---   Numbered g p         each pin place holds 0 or a net number
 --   row, channel, box    "kind: 1 row, 2 channel, 3 box"
 --   GridOf kind n w g    g is the grid of a wiring of a ticket; "A wiring of a ticket has the ticket's n and, for a box, its w. Its other counts
 --                        are any numbers from 1 up, and its first layer has either direction"
@@ -24,13 +22,10 @@ use mathlib.Core.Bool.{Bool}
 use mathlib.Core.List.{List, _∷_}
 use lib.ListN.{getD}
 use Rattle.counting.specs.Counting.{In, count}
-use Rattle.grid.specs.Grid.{Grid, Side, north, south, west, east, Node, pin, point, places, Inside, Joined}
+use Rattle.grid.specs.Grid.{Grid, Side, north, south, west, east, Node, pin, point, Inside, Joined}
 
 abbrev pub Pins : Type 0
 Pins = Side → ℕ → ℕ
-
-abbrev pub Bare : Pins → Side → Type 0
-Bare p s = (a : ℕ) → p s a ≡ 0
 
 abbrev pub Wiring : Type 0
 Wiring = ℕ → ℕ → ℕ → ℕ
@@ -56,9 +51,6 @@ topNet = 180
 
 abbrev pub nets : (ℕ → Bool) → ℕ
 nets t = count t topNet
-
-abbrev pub Numbered : Grid → Pins → Type 0
-Numbered g p = (s : Side) (a : ℕ) → In a (places g s) → p s a ≤ topNet
 
 abbrev pub row : ℕ
 row = 1

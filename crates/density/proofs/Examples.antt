@@ -1,0 +1,37 @@
+-- Figures of document 01's own tickets, computed from the definitions: they bound the counts from both sides.
+use Prim.Native.Nat.{ℕ}
+use mathlib.Core.Path.{_≡_, refl}
+use mathlib.Core.List.{List, [], _∷_}
+use Rattle.counting.specs.Counting.{sum, some, most, ceil}
+use Rattle.grid.specs.Grid.{upright}
+use Rattle.grid.specs.Legal.{Pins, pinsOf}
+use Rattle.density.specs.Density.{pinOn, hasPin, passesAt, passes, across, up, tracksFor, floor, floorOf}
+
+-- C2: "n 3, h 1, north 1 1 empty, south empty 2 2: across 2, through column 2"
+c2 : Pins
+c2 = pinsOf (1 ∷ 1 ∷ 0 ∷ []) (0 ∷ 2 ∷ 2 ∷ []) [] []
+
+c2-across : across (upright 3 1 1) c2 ≡ 2
+unfolding c2 across passesAt hasPin pinOn most sum some
+c2-across = refl
+
+-- the box that "prints exactly box length 4 width 1 nets 4 across 4 up 4 layers 12 floor 7"
+box : Pins
+box = pinsOf (1 ∷ 2 ∷ 3 ∷ 4 ∷ []) (4 ∷ 3 ∷ 2 ∷ 1 ∷ []) [] []
+
+box-figures : (across (upright 4 1 1) box ∷ up (upright 4 1 1) box ∷ floorOf (upright 4 1 1) box ∷ []) ≡ (4 ∷ 4 ∷ 7 ∷ [])
+unfolding box across up passesAt hasPin pinOn most sum some ceil floor
+box-figures = refl
+
+-- B1: "1 by 1, north 1, west 1: across 1, up 1, layers 6, floor 2"
+b1 : Pins
+b1 = pinsOf (1 ∷ []) [] (1 ∷ []) []
+
+b1-figures : (across (upright 1 1 1) b1 ∷ up (upright 1 1 1) b1 ∷ floorOf (upright 1 1 1) b1 ∷ []) ≡ (1 ∷ 1 ∷ 2 ∷ [])
+unfolding b1 across up passesAt hasPin pinOn most sum some ceil floor
+b1-figures = refl
+
+-- R1 and R2: across 2 on one trunk layer and on two; R3: across 0
+tracks : (tracksFor 1 2 ∷ tracksFor 2 2 ∷ tracksFor 1 0 ∷ []) ≡ (2 ∷ 1 ∷ 1 ∷ [])
+unfolding tracksFor ceil
+tracks = refl
