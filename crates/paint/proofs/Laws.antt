@@ -1,0 +1,157 @@
+-- Laws of painting: byte by byte, row by row, in the middle of a buffer, and layer by layer.
+use Prim.Native.Nat.{ℕ, zero, suc, _+_, _*_, _-_, _≤_, _<_}
+use mathlib.Core.Path.{_≡_, refl, sym, ap, ap₂, subst, _∙_}
+use mathlib.Core.Logic.{_⊎_, inl, inr, ⊎-elim, by-cases}
+use mathlib.Core.List.{List}
+use native.Mathlib.Omega.{arith}
+use native.Mathlib.Decide.{ℕ-discrete, decLe, decLt}
+use native.Mathlib.Nat.{zero-mul, add-sub-cancel-left, mul-one, suc-mul, mul-comm, mul-le-mul-right}
+use native.Mathlib.Numerals.{add-one}
+use mathlib.Core.List.{_++_}
+use lib.ListN.{length, getD, set, take, drop, length-set, length-take, length-drop, List·getD-append}
+use lib.Seq.{getD-set-same, getD-set-other, getD-append-add, getD-take, getD-drop, length-take-le}
+use borrow.Rule.Slice.PartMut.{midOf, postOf, putMid, same-len-mid, take-put, drop-put}
+use Rattle.grid.specs.Grid.{Grid, point, Inside}
+use Rattle.grid.specs.Legal.{Wiring, index, wiringOf}
+use Rattle.grid.proofs.Buffer.{index-is}
+use Rattle.paint.specs.Paint.{Striped, Painted, Drawn}
+
+-- ---- byte by byte: the first i bytes are f
+
+pub record Upto (before after : List ℕ) (i : ℕ) (f : ℕ → ℕ) : Type 0 where
+  pub long : length after ≡ length before
+  pub here : (t : ℕ) → t < i → getD after t 0 ≡ f t
+
+pub upto-start : (l : List ℕ) (f : ℕ → ℕ) → Upto l l 0 f
+upto-start l f = record { long = refl; here = λ t h. absurd (omega arith) }
+
+pub upto-next : {before after : List ℕ} {i : ℕ} {f : ℕ → ℕ} (v : ℕ) → i < length before → v ≡ f i → Upto before after i f → Upto before (set after i v) (i + 1) f
+upto-next {before} {after} {i} {f} v h e u = record {
+  long = simp length-set (u .long);
+  here = λ t k. by-cases (ℕ-discrete t i)
+      (λ q. rw q (getD-set-same after i v 0 (omega (arith, u .long)) ∙ e))
+      (λ ne. getD-set-other after i t v 0 ne ∙ u .here t (omega (arith, ne)));
+}
+
+pub upto-all : {before after : List ℕ} {n : ℕ} {f : ℕ → ℕ → ℕ} → length before ≤ n → Upto before after n (λ i. f i 0) → Striped before after (length before) 1 f
+upto-all {before} {after} {n} {f} h u = record { long = u .long; here = λ i j hi hj. at i j (omega arith) (omega arith) }
+  where
+    at : (i j : ℕ) → i < n → j ≡ 0 → getD after (j * length before + i) 0 ≡ f i j
+    at i j hi e = rw e (ap (λ t. getD after t 0) (omega (arith, zero-mul (length before))) ∙ u .here i hi)
+
+-- row j, and byte i of it, lie within w rows of n
+pub row-in : (n w j : ℕ) → j < w → j * n + n ≤ n * w
+row-in n w j h = omega (arith, mul-le-mul-right n h, suc-mul j n, mul-comm w n)
+
+inside : (n w i j : ℕ) → i < n → j < w → j * n + i < n * w
+inside n w i j hi hj = omega (arith, row-in n w j hj)
+
+-- ---- in the middle of a buffer: k bytes from a on give way to ys
+
+mid-long : (a k : ℕ) (xs : List ℕ) → a + k ≤ length xs → length (midOf a k xs) ≡ k
+mid-long a k xs fits = length-take-le k (drop a xs) (simp length-drop (omega arith))
+
+pub mid-size : (a n : ℕ) (xs : List ℕ) → a + n ≤ length xs → length (midOf a (a + n - a) xs) ≡ n
+mid-size a n xs fits = mid-long a (a + n - a) xs (omega arith) ∙ add-sub-cancel-left a n
+
+module _ (a k : ℕ) (xs ys : List ℕ) (fits : a + k ≤ length xs) (many : length ys ≡ k) where
+  mid-here : (t : ℕ) → t < k → getD (putMid a k xs ys) (a + t) 0 ≡ getD ys t 0
+  mid-here t h =
+      ap (λ (u : ℕ). getD (putMid a k xs ys) (u + t) 0) (sym (length-take-le a xs (omega arith)))
+      ∙ getD-append-add (take a xs) (ys ++ postOf a k xs) t 0 ∙ List·getD-append ys (postOf a k xs) 0 t (omega arith)
+
+  mid-before : (b : ℕ) → b < a → getD (putMid a k xs ys) b 0 ≡ getD xs b 0
+  mid-before b h = sym (getD-take a (putMid a k xs ys) b 0 h) ∙ ap (λ (l : List ℕ). getD l b 0) (take-put a k xs ys (omega arith)) ∙ getD-take a xs b 0 h
+
+  dropped : drop (a + k) (putMid a k xs ys) ≡ drop (a + k) xs
+  dropped =
+      let size : a + k - a ≡ k = omega arith in
+      subst (λ (u : ℕ). drop (a + k) (putMid a u xs ys) ≡ drop (a + k) xs) size (drop-put a (a + k) xs ys (omega arith) fits (omega arith))
+
+  mid-after : (t : ℕ) → getD (putMid a k xs ys) (a + k + t) 0 ≡ getD xs (a + k + t) 0
+  mid-after t = sym (getD-drop (a + k) (putMid a k xs ys) t 0) ∙ ap (λ (l : List ℕ). getD l t 0) dropped ∙ getD-drop (a + k) xs t 0
+
+-- a part that is lent, striped and handed back
+pub put-striped : {from k n w : ℕ} {f : ℕ → ℕ → ℕ} (xs ys : List ℕ) → k ≡ n * w → from + k ≤ length xs → Striped (midOf from k xs) ys n w f
+    → Painted xs (putMid from k xs ys) from n w f
+put-striped {from} {k} {n} {w} {f} xs ys size fits s = record {
+  long = same-len-mid from k xs ys (s .long);
+  here = λ i j hi hj. mid-here from k xs ys fits many (j * n + i) (omega (arith, inside n w i j hi hj)) ∙ s .here i j hi hj;
+  others = λ b o. ⊎-elim (mid-before from k xs ys fits many b)
+      (λ h. let e : from + k + (b - (from + k)) ≡ b = omega arith in
+      subst (λ (u : ℕ). getD (putMid from k xs ys) u 0 ≡ getD xs u 0) e (mid-after from k xs ys fits many (b - (from + k)))) o;
+}
+  where
+    many : length ys ≡ k
+    many = s .long ∙ mid-long from k xs fits
+
+pub row-none : (l : List ℕ) (n : ℕ) (f : ℕ → ℕ → ℕ) → Striped l l n 0 f
+row-none l n f = record { long = refl; here = λ i j h k. absurd (omega arith) }
+
+-- row j starts where the rows before it end
+pub row-next : {before now after : List ℕ} {n j from : ℕ} {f : ℕ → ℕ → ℕ} → from ≡ j * n → Striped before now n j f
+    → Painted now after from n 1 (λ i z. f i j) → Striped before after n (suc j) f
+row-next {before} {now} {after} {n} {j} {from} {f} start s p = record {
+  long = p .long ∙ s .long;
+  here = λ i k hi hk. by-cases (ℕ-discrete k j)
+      (λ e. rw e (ap (λ (u : ℕ). getD after u 0) (omega (arith, zero-mul n)) ∙ p .here i 0 hi (omega arith)))
+      (λ ne. p .others (k * n + i) (inl (omega (arith, inside n j i k hi (omega arith), mul-comm n j))) ∙ s .here i k hi (omega arith));
+}
+
+-- n bytes that are lent, striped and handed back
+pub put-row : {from n k : ℕ} {f : ℕ → ℕ → ℕ} (xs ys : List ℕ) → k ≡ n → from + n ≤ length xs → Striped (midOf from k xs) ys (length (midOf from k xs)) 1 f
+    → Painted xs (putMid from k xs ys) from n 1 f
+put-row {from} {n} {k} {f} xs ys size fits s =
+    let many : length (midOf from k xs) ≡ n = mid-long from k xs (omega arith) ∙ size in
+    put-striped {k = k} {n = n} {w = 1} xs ys (omega (arith, mul-one n)) (omega arith) (subst (λ (u : ℕ). Striped (midOf from k xs) ys u 1 f) many s)
+
+pub row-step : {before now : List ℕ} {n j from k : ℕ} {f : ℕ → ℕ → ℕ} (ys : List ℕ) → from ≡ j * n → k ≡ n → from + n ≤ length now → Striped before now n j f
+    → Striped (midOf from k now) ys (length (midOf from k now)) 1 (λ i z. f i j) → Striped before (putMid from k now ys) n (j + 1) f
+row-step {before} {now} {n} {j} {from} {k} {f} ys start size fits s r = rw add-one (row-next start s (put-row now ys size fits r))
+
+pub next-row : (from n j : ℕ) → from ≡ j * n → from + n ≡ (j + 1) * n
+next-row from n j e = rw add-one (omega (arith, suc-mul j n))
+
+pub rows-all : {before after : List ℕ} {n w j : ℕ} {f : ℕ → ℕ → ℕ} → w ≤ j → Striped before after n j f → Striped before after n w f
+rows-all h s = record { long = s .long; here = λ i j hi hj. s .here i j hi (omega arith) }
+
+-- ---- a layer that is lent, striped and handed back
+
+pub put-layer : {from size n w : ℕ} {f : ℕ → ℕ → ℕ} (xs ys : List ℕ) → size ≡ n * w → from + size ≤ length xs → Striped (midOf from (from + size - from) xs) ys n w f
+    → Painted xs (putMid from (from + size - from) xs ys) from n w f
+put-layer {from} {size} xs ys e fits s = put-striped xs ys (add-sub-cancel-left from size ∙ e) (omega arith) s
+
+-- ---- layer by layer
+
+pub drawn-none : (n w : ℕ) (l : List ℕ) (x : Wiring) → Drawn n w l l 0 x
+drawn-none n w l x = record { long = refl; here = λ i j t hi hj h. absurd (omega arith); others = λ b h. refl }
+
+-- the next layer is painted as x has it
+pub drawn-next : {n w top from : ℕ} {before now after : List ℕ} {f : ℕ → ℕ → ℕ} {x : Wiring} → from ≡ top * (n * w) → Drawn n w before now top x
+    → Painted now after from n w f → ((i j : ℕ) → i < n → j < w → f i j ≡ x (suc i) (suc j) (suc top)) → Drawn n w before after (suc top) x
+drawn-next {n} {w} {top} {from} {before} {now} {after} {f} {x} start d p same = record {
+  long = p .long ∙ d .long;
+  here = λ i j l hi hj hl. by-cases (ℕ-discrete l top)
+      (λ e. rw e (ap (λ (u : ℕ). getD after (u + (j * n + i)) 0) (sym start) ∙ p .here i j hi hj ∙ same i j hi hj))
+      (λ ne. p .others (l * (n * w) + (j * n + i)) (inl (omega (arith, inside n w i j hi hj, row-in (n * w) top l (omega arith), mul-comm (n * w) top)))
+      ∙ d .here i j l hi hj (omega arith));
+  others = λ b h. let e : suc top * (n * w) ≡ top * (n * w) + n * w = suc-mul top (n * w) in p .others b (inr (omega arith)) ∙ d .others b (omega arith);
+}
+
+-- the drawn layers are the wiring that the buffer holds
+pub drawn-wiring : (g : Grid) {before after : List ℕ} {x : Wiring} → Drawn (g .n) (g .w) before after (g .k) x
+    → (i j l : ℕ) → Inside g (point i j l) → wiringOf g after i j l ≡ x i j l
+drawn-wiring g d zero j l h = absurd (omega arith)
+drawn-wiring g d (suc i) zero l h = absurd (omega arith)
+drawn-wiring g d (suc i) (suc j) zero h = absurd (omega arith)
+drawn-wiring g {before} {after} {x} d (suc i) (suc j) (suc l) h =
+    ap (λ (u : ℕ). getD after u 0) (at ∙ ap₂ (λ (a b : ℕ). a * (g .n * g .w) + (b * g .n + i)) level row) ∙ d .here i j l (omega arith) (omega arith) (omega arith)
+  where
+    level : suc l - 1 ≡ l
+    level = omega arith
+
+    row : suc j - 1 ≡ j
+    row = omega arith
+
+    at : index g (suc i) (suc j) (suc l) ≡ (suc l - 1) * (g .n * g .w) + ((suc j - 1) * g .n + i)
+    at = omega (arith, index-is g (suc i) (suc j) (suc l) (omega arith))

@@ -1,0 +1,76 @@
+// A layer's part of the wiring buffer, painted in full lines: by column, by track, or with one value.
+// All functions here are for our own crates.
+ghost use mathlib.Core.Path.{_≡_};
+ghost use Prim.Native.Nat.{_+_, _*_, _≤_};
+ghost use lib.ListN.{length, getD};
+ghost use Rattle.paint.specs.Paint.{Striped, Painted};
+
+// Each byte of the part is v.
+fn fill(part: &mut [u8], v: u8)
+    ensures { λ _. ⌜ Striped (now (part .entry)) (now (part .exit)) (length (now (part .entry))) 1 (λ i j. v) ⌝ }
+{
+    for i in 0..part.len() {
+        part[i] = v;
+    }
+}
+
+// The part is a copy of values, which are as many.
+fn copy(part: &mut [u8], values: &[u8])
+    requires { ⌜ length (now part) ≡ length (now values) ⌝ }
+    ensures { λ _. ⌜ Striped (now (part .entry)) (now (part .exit)) (length (now (part .entry))) 1 (λ i j. getD (now (values .entry)) i 0) ⌝ }
+{
+    for i in 0..part.len() {
+        part[i] = values[i];
+    }
+}
+
+// Of w tracks each is a copy of values, so that column i is values[i - 1] from end to end.
+fn columns(part: &mut [u8], values: &[u8], w: usize)
+    requires { ⌜ length (now part) ≡ length (now values) * w ⌝ }
+    ensures { λ _. ⌜ Striped (now (part .entry)) (now (part .exit)) (length (now (values .entry))) w (λ i j. getD (now (values .entry)) i 0) ⌝ }
+{
+    let n = values.len();
+    let mut from: usize = 0;
+    for j in 0..w {
+        copy(&mut part[from..from + n], values);
+        from += n;
+    }
+}
+
+// Track j is values[j - 1] in each of its n columns.
+fn tracks(part: &mut [u8], values: &[u8], n: usize)
+    requires { ⌜ length (now part) ≡ n * length (now values) ⌝ }
+    ensures { λ _. ⌜ Striped (now (part .entry)) (now (part .exit)) n (length (now (values .entry))) (λ i j. getD (now (values .entry)) j 0) ⌝ }
+{
+    let mut from: usize = 0;
+    for j in 0..values.len() {
+        fill(&mut part[from..from + n], values[j]);
+        from += n;
+    }
+}
+
+// count bytes of the wiring from `from` on.
+pub fn paint_run(wiring: &mut [u8], from: usize, count: usize, v: u8)
+    requires { ⌜ from + count ≤ length (now wiring) ⌝ }
+    ensures { λ _. ⌜ Painted (now (wiring .entry)) (now (wiring .exit)) from count 1 (λ i j. v) ⌝ }
+{
+    fill(&mut wiring[from..from + count], v);
+}
+
+// The layer of n × w bytes that starts at `from`, each column one value: n is the number of values.
+pub fn paint_columns(wiring: &mut [u8], from: usize, values: &[u8], w: usize)
+    requires { ⌜ (from + length (now values) * w ≤ length (now wiring)) ⌝ }
+    ensures { λ _. ⌜ Painted (now (wiring .entry)) (now (wiring .exit)) from (length (now (values .entry))) w (λ i j. getD (now (values .entry)) i 0) ⌝ }
+{
+    let to = from + values.len() * w;
+    columns(&mut wiring[from..to], values, w);
+}
+
+// The same with each track one value: w is the number of values.
+pub fn paint_tracks(wiring: &mut [u8], from: usize, values: &[u8], n: usize)
+    requires { ⌜ (from + n * length (now values) ≤ length (now wiring)) ⌝ }
+    ensures { λ _. ⌜ Painted (now (wiring .entry)) (now (wiring .exit)) from n (length (now (values .entry))) (λ i j. getD (now (values .entry)) j 0) ⌝ }
+{
+    let to = from + n * values.len();
+    tracks(&mut wiring[from..to], values, n);
+}
