@@ -1,0 +1,1 @@
+// No code: document 01's proof table, computed from the definitions.

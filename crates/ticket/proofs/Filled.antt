@@ -1,0 +1,64 @@
+-- An array that a loop fills from the front: f at the places passed, and 0 past them.
+use Prim.Native.Nat.{ℕ, zero, suc, _+_, _≤_, _<_}
+use mathlib.Core.List.{List}
+use mathlib.Core.Logic.{⊎-elim}
+use mathlib.Core.Path.{_≡_, refl, sym, ap, _∙_}
+use native.Mathlib.Nat.{add-zero, add-suc, suc-add, not-suc-le-zero, le-of-suc-le-suc, le-refl}
+use native.Mathlib.Omega.{arith}
+use lib.ListN.{length, getD, set, replicate, length-set, length-replicate, getD-replicate, List·getD-eq-default}
+use lib.Seq.{ext-getD, getD-set-same, getD-set-other}
+use borrow.Author.Count.{below-more}
+use Rattle.ticket.proofs.Flags.{le-or-lt}
+use Rattle.ticket.specs.Format.{listed}
+
+pub length-listed : (f : ℕ → ℕ) (i n : ℕ) → length (listed f i n) ≡ n
+unfolding listed
+length-listed f i zero = refl
+length-listed f i (suc n) = ap suc (length-listed f (suc i) n)
+
+pub getD-listed : (f : ℕ → ℕ) (i n k : ℕ) → k < n → getD (listed f i n) k 0 ≡ f (i + k)
+unfolding listed
+getD-listed f i zero k h = absurd (not-suc-le-zero h)
+getD-listed f i (suc n) zero h = ap f (sym (add-zero i))
+getD-listed f i (suc n) (suc k) h = getD-listed f (suc i) n k (le-of-suc-le-suc h) ∙ ap f (suc-add i k ∙ sym (add-suc i k))
+
+pub zeros-at : (n v : ℕ) → _≡_ {A = ℕ} (getD (replicate n 0) v 0) 0
+zeros-at n v = ⊎-elim (λ le. List·getD-eq-default (replicate n 0) 0 (rw length-replicate le)) (λ lt. getD-replicate n v 0 0 lt) (le-or-lt n v)
+
+pub record Filled (f : ℕ → ℕ) (n i : ℕ) (l : List ℕ) : Type 0 where
+  pub size : length l ≡ n
+  pub done : (k : ℕ) → k < i → getD l k 0 ≡ f (k + 1)
+  pub rest : (k : ℕ) → i ≤ k → getD l k 0 ≡ 0
+
+module _ (f : ℕ → ℕ) (n : ℕ) where
+  pub filled-none : Filled f n 0 (replicate n 0)
+  filled-none = record { size = length-replicate n 0; done = λ k h. absurd (not-suc-le-zero h); rest = λ k h. zeros-at n k }
+
+  -- a store of f (i + 1) at i
+  pub filled-set : (i v : ℕ) (l : List ℕ) → i < n → v ≡ f (i + 1) → Filled f n i l → Filled f n (i + 1) (set l i v)
+  filled-set i v l h e w =
+      record {
+        size = length-set l i v ∙ w .size;
+        done = below-more (λ k. getD (set l i v) k 0 ≡ f (k + 1)) i
+            (λ k less. getD-set-other l i k v 0 (λ q. omega arith) ∙ w .done k less)
+            (getD-set-same l i v 0 (rw (w .size) h) ∙ e);
+        rest = λ k le. getD-set-other l i k v 0 (λ q. omega arith) ∙ w .rest k (omega arith);
+      }
+
+  -- f (i + 1) is 0: nothing to store
+  pub filled-skip : (i : ℕ) (l : List ℕ) → f (i + 1) ≡ 0 → Filled f n i l → Filled f n (i + 1) l
+  filled-skip i l e w =
+      record {
+        size = w .size;
+        done = below-more (λ k. getD l k 0 ≡ f (k + 1)) i (w .done) (w .rest i (le-refl i) ∙ sym e);
+        rest = λ k le. w .rest k (omega arith);
+      }
+
+  -- f is 0 past i: the array lists f
+  pub filled-end : (i : ℕ) (l : List ℕ) → ((a : ℕ) → i < a → f a ≡ 0) → Filled f n i l → l ≡ listed f 1 n
+  filled-end i l z w =
+      ext-getD 0 l (listed f 1 n) (w .size ∙ sym (length-listed f 1 n))
+      (λ k lt.
+      let one : 1 + k ≡ k + 1 = omega arith in
+      ⊎-elim (λ le. w .rest k le ∙ sym (z (k + 1) (omega arith))) (λ less. w .done k less) (le-or-lt i k)
+      ∙ sym (getD-listed f 1 n k (rw (w .size) at lt) ∙ ap f one))

@@ -1,0 +1,236 @@
+-- What callers use of a ticket that Read accepts: the ranges of its header, and of its pins that they are nets or empty, end with their side, leave
+-- bare the sides that its kind lacks, and that no net has one pin. Each stage of the reading was passed, and says its part.
+use Prim.Native.Nat.{ℕ, zero, suc, _+_, _^_, _≤_, _<_}
+use mathlib.Core.Bool.{Bool, true, false, and-false}
+use mathlib.Core.List.{List}
+use mathlib.Core.Logic.{_≢_, ⊎-elim, by-cases}
+use mathlib.Core.Path.{_≡_, refl, sym, ap, _∙_, subst}
+use native.Mathlib.Decide.{ℕ-discrete}
+use native.Mathlib.Nat.{div-eq-of-lt}
+use native.Mathlib.Numerals.{add-one}
+use native.Mathlib.Omega.{arith}
+use lib.Dec.{leb, eqb}
+use lib.ListN.{length, List·getD-eq-default}
+use borrow.Author.Tests.{eqb-true, eqb-false, eq-eqb, ne-eqb}
+use Rattle.counting.specs.Counting.{In, bit}
+use Rattle.counting.proofs.Sums.{split, sum-grows}
+use Rattle.grid.specs.Grid.{Grid, Side, north, south, west, east, places, upright}
+use Rattle.grid.specs.Legal.{Pins as GridPins, topNet, row, channel, box, entry}
+use Rattle.grid.proofs.Pins.{Bare}
+use Rattle.grid.specs.View.{longestSide}
+use Rattle.ticket.proofs.Flags.{le-or-lt}
+use Rattle.ticket.proofs.Bits.{standing-one, pin-stands, pin-empty, pin-past, pin-off}
+use Rattle.ticket.proofs.Filled.{length-listed, getD-listed}
+use Rattle.ticket.proofs.Seconds.{second}
+use Rattle.ticket.proofs.Laws.{unless-good, Fields, fields-good, nets-good, least-zero}
+use Rattle.ticket.specs.declared.Cursor.{Cursor}
+use Rattle.ticket.specs.declared.Pins.{Pins}
+use Rattle.ticket.specs.declared.Ticket.{Ticket}
+use Rattle.ticket.specs.Format.{byte, largestByte2, isOn, stands, standing, mapBytes, goodMap, pinNet, listed, sideNets, pinsIn, pinCount, loneNet, netCount}
+use Rattle.ticket.specs.Good.{Another, Good}
+use Rattle.ticket.specs.Read.{goOn, headerOf, netsOf, sideOf, after, northEnd, southEnd, westEnd, eastEnd, endsOf, pinsAt, leftOver, noLone, acceptedTicket, orRefused, ticketOf, readOf}
+
+-- ---- a side's list
+
+module _ (f : ℕ → ℕ) (n : ℕ) where
+  pub entry-listed : (a : ℕ) → In a n → entry (listed f 1 n) a ≡ f a
+  entry-listed zero i = absurd (omega arith)
+  entry-listed (suc k) i = let one : 1 + k ≡ suc k = omega arith in getD-listed f 1 n k (omega arith) ∙ ap f one
+
+  entry-past : (a : ℕ) → n < a → entry (listed f 1 n) a ≡ 0
+  entry-past zero i = absurd (omega arith)
+  entry-past (suc k) i = List·getD-eq-default (listed f 1 n) 0 (rw length-listed (omega arith))
+
+  -- what holds of 0 and of f at each place holds of each entry
+  entry-all : (P : ℕ → Type 0) → P 0 → ((a : ℕ) → In a n → P (f a)) → (a : ℕ) → P (entry (listed f 1 n) a)
+  entry-all P z h zero = z
+  entry-all P z h (suc k) =
+      ⊎-elim (λ le. subst P (sym (entry-listed (suc k) (omega arith))) (h (suc k) (omega arith))) (λ lt. subst P (sym (entry-past (suc k) lt)) z) (le-or-lt (suc k) n)
+
+-- the nets of a side of p places
+record Listed (p : ℕ) (l : List ℕ) : Type 0 where
+  size : length l ≡ longestSide
+  small : (a : ℕ) → entry l a ≤ topNet
+  past : (a : ℕ) → p < a → entry l a ≡ 0
+
+nets-small : (s : List ℕ) (k i j : ℕ) → netsOf s i k .number ≡ 0 → j < k → byte s (i + j) ≤ topNet
+nets-small s zero i j e h = absurd (omega arith)
+nets-small s (suc k) i zero e h = let q : i + 0 ≡ i = omega arith in rw q (nets-good s k i e .1)
+nets-small s (suc k) i (suc j) e h = let q : i + suc j ≡ i + 1 + j = omega arith in rw q (nets-small s k (i + 1) j (nets-good s k i e .2) (omega arith))
+
+module _ (s : List ℕ) (from p : ℕ) (e : netsOf s (from + mapBytes p) (standing s from p) .number ≡ 0) where
+  standing-below : (i : ℕ) → i < p → stands s from (i + 1) ≡ true → standing s from i < standing s from p
+  standing-below i h t = omega (arith, standing-one s from i t, sum-grows (λ a. bit (stands s from a)) (i + 1) p (omega arith))
+
+  pin-small : (i : ℕ) → pinNet s true from p (i + 1) ≤ topNet
+  pin-small i =
+      ⊎-elim (λ le. omega (arith, pin-past s true from p (i + 1) (omega arith)))
+      (λ lt.
+      split (stands s from (i + 1))
+      (λ t. rw (pin-stands s from p i lt t) (nets-small s (standing s from p) (from + mapBytes p) (standing s from i) e (standing-below i lt t)))
+      (λ t. omega (arith, pin-empty s true from p (i + 1) t)))
+      (le-or-lt p i)
+
+  pin-small-at : (a : ℕ) → In a longestSide → pinNet s true from p a ≤ topNet
+  pin-small-at zero i = absurd (omega arith)
+  pin-small-at (suc k) i = rw (← add-one) (pin-small k)
+
+listed-side : (s : List ℕ) (on : Bool) (from p : ℕ) → ((a : ℕ) → In a longestSide → pinNet s on from p a ≤ topNet) → Listed p (sideNets s on from p)
+unfolding sideNets
+listed-side s on from p small =
+    record {
+      size = length-listed (pinNet s on from p) 1 longestSide;
+      small = entry-all (pinNet s on from p) longestSide (λ x. x ≤ topNet) (omega arith) small;
+      past = λ a h. ⊎-elim (λ le. entry-listed (pinNet s on from p) longestSide a (omega arith) ∙ pin-past s on from p a h) (entry-past (pinNet s on from p) longestSide a) (le-or-lt a longestSide);
+    }
+
+side-listed : (s : List ℕ) (on : Bool) (p : ℕ) (c : Cursor) → after s on p c .number ≡ 0 → (c .number ≡ 0) × Listed p (sideNets s on (c .at) p)
+unfolding after sideOf
+side-listed s true p c e =
+    by-cases (ℕ-discrete (c .number) 0)
+    (λ z.
+    let a = unless-good (leb (c .at + mapBytes p) (length s)) 1 (length s) _ (λ q. omega arith) (rw (eq-eqb (c .number) 0 z) at e) in
+    let b = unless-good (goodMap s (c .at) p) 6 (c .at) _ (λ q. omega arith) (a .1) in
+    (z, listed-side s true (c .at) p (pin-small-at s (c .at) p (b .1))))
+    (λ n. absurd (n (rw (ne-eqb (c .number) 0 n) at e)))
+side-listed s false p c e = (rw and-false at e, listed-side s false (c .at) p (λ a i. omega (arith, pin-off s (c .at) p a)))
+
+side-bare : (s : List ℕ) (on : Bool) (from p : ℕ) → on ≡ false → (a : ℕ) → entry (sideNets s on from p) a ≡ 0
+unfolding sideNets
+side-bare s on from p off a =
+    entry-all (pinNet s on from p) longestSide (λ x. x ≡ 0) refl (λ b i. ap (λ (t : Bool). pinNet s t from p b) off ∙ pin-off s from p b) a
+
+-- ---- the stages were passed
+
+stage : (c : Cursor) (t : Ticket) → orRefused c t .answer .number ≡ 0 → (c .number ≡ 0) × (orRefused c t ≡ t)
+stage c t e =
+    by-cases (ℕ-discrete (c .number) 0)
+    (λ z. (z, rw (eq-eqb (c .number) 0 z)))
+    (λ n. absurd (n (rw (ne-eqb (c .number) 0 n) at e)))
+
+abbrev found : List ℕ → Pins
+found s = pinsAt s (endsOf s)
+
+abbrev number : Ticket → ℕ
+number t = t .answer .number
+
+record Read (s : List ℕ) : Type 0 where
+  header : Fields (byte s 0) (byte s 1) (byte s 2) (byte s 3)
+  sides : eastEnd s .number ≡ 0
+  lone : loneNet (pinsIn (found s)) ≡ 0
+  whole : ticketOf s ≡ acceptedTicket s (netCount (pinsIn (found s))) (found s)
+
+passed : (s : List ℕ) → readOf s .number ≡ 0 → Read s
+unfolding ticketOf headerOf
+passed s e =
+    let a = stage (headerOf s) _ e in
+    let b = stage (eastEnd s) _ (ap number (sym (a .1)) ∙ e) in
+    let c = stage (leftOver s (eastEnd s .at)) _ (ap number (sym (b .1)) ∙ ap number (sym (a .1)) ∙ e) in
+    let d = stage (noLone (loneNet (pinsIn (found s)))) _ (ap number (sym (c .1)) ∙ ap number (sym (b .1)) ∙ ap number (sym (a .1)) ∙ e) in
+    let one = unless-good (leb 4 (length s)) 1 (length s) _ (λ q. omega arith) (a .0) in
+    record {
+      header = fields-good _ _ _ _ (one .1);
+      sides = b .0;
+      lone = eqb-true _ _ (unless-good (eqb (loneNet (pinsIn (found s))) 0) 9 _ _ (λ q. omega arith) (d .0) .0);
+      whole = a .1 ∙ b .1 ∙ c .1 ∙ d .1;
+    }
+
+-- ---- the pins
+
+off : (b k : ℕ) → b < 2 ^ k → isOn b k ≡ false
+off b k h = rw (div-eq-of-lt h)
+
+byte2-fits : (kind : ℕ) {w : ℕ} → w ≤ largestByte2 kind → w ≤ longestSide
+byte2-fits kind h = split (eqb kind box) (λ e. rw e at h) (λ e. omega (arith, rw e at h))
+
+module _ (s : List ℕ) (r : Read s) where
+  ends : Listed (byte s 1) (found s .north) × Listed (byte s 1) (found s .south) × Listed (byte s 2) (found s .west) × Listed (byte s 2) (found s .east)
+  unfolding northEnd southEnd westEnd eastEnd
+  ends =
+      let e = side-listed s _ _ (westEnd s) (r .sides) in
+      let w = side-listed s _ _ (southEnd s) (e .0) in
+      let so = side-listed s _ _ (northEnd s) (w .0) in
+      let n = side-listed s _ _ (goOn 4) (so .0) in
+      (n .1, so .1, w .1, e .1)
+
+  abbrev grid : Grid
+  grid = upright (byte s 1) (byte s 2) 1
+
+  small : (side : Side) (a : ℕ) → pinsIn (found s) side a ≤ topNet
+  small north = ends .0 .small
+  small south = ends .1 .small
+  small west = ends .2 .small
+  small east = ends .3 .small
+
+  past : (side : Side) (a : ℕ) → places grid side < a → pinsIn (found s) side a ≡ 0
+  past north = ends .0 .past
+  past south = ends .1 .past
+  past west = ends .2 .past
+  past east = ends .3 .past
+
+  none : (side : Side) → pinsIn (found s) side 0 ≡ 0
+  none north = refl
+  none south = refl
+  none west = refl
+  none east = refl
+
+  inside : (side : Side) (a m : ℕ) → m ≢ 0 → pinsIn (found s) side a ≡ m → In a (places grid side)
+  inside side zero m n e = absurd (n (sym e ∙ none side))
+  inside side (suc a) m n e = ⊎-elim (λ le. (omega arith, le)) (λ lt. absurd (n (sym e ∙ past side (suc a) lt))) (le-or-lt (suc a) (places grid side))
+
+  fits : (side : Side) → places grid side ≤ longestSide
+  fits north = r .header .length .1
+  fits south = r .header .length .1
+  fits west = byte2-fits (byte s 0) (r .header .second .1)
+  fits east = byte2-fits (byte s 0) (r .header .second .1)
+
+  abbrev pins : GridPins
+  pins = pinsIn (found s)
+
+  several : (side : Side) (a : ℕ) → pins side a ≢ 0 → Another grid pins side a
+  several side a n =
+      let i = inside side a _ n refl in
+      let u = second pins (pins side a) side a (omega (arith, fits side)) refl
+      (eqb-false _ 1 (least-zero (λ v. eqb (pinCount pins v) 1) topNet (pins side a) (r .lone) (omega arith) (small side a))) in
+      record { side = u .side; place = u .place; on = inside (u .side) (u .place) _ n (u .net); net = u .net; different = u .different }
+
+  -- the sides that a row and a channel lack
+  map-row : byte s 0 ≡ row → byte s 3 ≤ 1
+  map-row e = rw (eq-eqb (byte s 0) row e) at (r .header .sides)
+
+  map-channel : byte s 0 ≢ box → byte s 3 ≤ 3
+  map-channel n =
+      by-cases (ℕ-discrete (byte s 0) row) (λ e. omega (arith, map-row e))
+      (λ no. rw (ne-eqb (byte s 0) row no, eq-eqb (byte s 0) channel (omega (arith, r .header .kinds))) at (r .header .sides))
+
+  bare-south : byte s 0 ≡ row → Bare pins south
+  bare-south e = side-bare s _ _ _ (off (byte s 3) 1 (omega (arith, map-row e)))
+
+  bare-west : byte s 0 ≢ box → Bare pins west
+  bare-west n = side-bare s _ _ _ (off (byte s 3) 2 (omega (arith, map-channel n)))
+
+  bare-east : byte s 0 ≢ box → Bare pins east
+  bare-east n = side-bare s _ _ _ (off (byte s 3) 3 (omega (arith, map-channel n)))
+
+  good : Good (acceptedTicket s (netCount pins) (found s))
+  good =
+      record {
+        kinds = r .header .kinds;
+        columns = r .header .length;
+        width = λ e. let h = r .header .second in (h .0, rw (eq-eqb (byte s 0) box e) at (h .1));
+        trunks = λ n. let h = r .header .second in (h .0, rw (ne-eqb (byte s 0) box n) at (h .1));
+        north-size = ends .0 .size;
+        south-size = ends .1 .size;
+        west-size = ends .2 .size;
+        east-size = ends .3 .size;
+        numbered = small;
+        ends = past;
+        bare-south = bare-south;
+        bare-west = bare-west;
+        bare-east = bare-east;
+        several = several;
+        nets = refl;
+      }
+
+pub read-good : (s : List ℕ) → readOf s .number ≡ 0 → Good (ticketOf s)
+read-good s e = let r = passed s e in subst Good (sym (r .whole)) (good s r)

@@ -1,0 +1,147 @@
+-- Laws of the definitions of specs/Read and specs/Format, as the loops and the stages of the reading use them.
+use Prim.Native.Nat.{ℕ, zero, suc, _+_, _-_, _≤_, _<_}
+use mathlib.Core.Bool.{Bool, true, false, cond, _&&_}
+use mathlib.Core.List.{List}
+use mathlib.Core.Logic.{by-cases}
+use mathlib.Core.Path.{_≡_, refl, sym, ap, _∙_}
+use native.Mathlib.Decide.{ℕ-discrete}
+use native.Mathlib.Nat.{not-suc-le-zero}
+use native.Mathlib.Numerals.{add-one}
+use native.Mathlib.Omega.{arith}
+use lib.Dec.{leb, ltb, eqb}
+use lib.ListN.{length}
+use borrow.Author.Tests.{lt-ltb, le-ltb, eq-eqb, ne-eqb, leb-true}
+use Rattle.grid.specs.Legal.{topNet, box}
+use Rattle.grid.specs.View.{longestSide, within}
+use Rattle.ticket.specs.Format.{byte, largestByte2, largestSideMap, least}
+use Rattle.ticket.specs.Read.{refusal, goOn, unless, fieldsOf, headerOf, netsOf, Header, orRefused, refusedTicket}
+use Rattle.ticket.specs.declared.Cursor.{Cursor}
+use Rattle.ticket.specs.declared.Ticket.{Ticket}
+
+pub at-refused : {r : Cursor} {k p : ℕ} → r ≡ refusal k p → r .at ≡ 0
+at-refused e = ap (λ (c : Cursor). c .at) e
+
+pub at-going : {r : Cursor} {i : ℕ} → r ≡ goOn i → r .at ≡ i
+at-going e = ap (λ (c : Cursor). c .at) e
+
+-- nothing is refused: the test held, and nothing is refused after it
+pub unless-good : (t : Bool) (k p : ℕ) (c : Cursor) → (k ≡ 0 → ⊥) → unless t k p c .number ≡ 0 → (t ≡ true) × (c .number ≡ 0)
+unfolding unless
+unless-good true k p c n e = (refl, e)
+unless-good false k p c n e = absurd (n e)
+
+-- ---- the header
+
+both : (a b : Bool) → (a && b) ≡ true → (a ≡ true) × (b ≡ true)
+both true b e = (refl, e)
+both false b e = let z : _≡_ {A = ℕ} 0 1 = cc in absurd (omega arith)
+
+pub within-is : (x m : ℕ) → within x m ≡ true → (1 ≤ x) × (x ≤ m)
+within-is x m e = let h = both (leb 1 x) (leb x m) e in (leb-true 1 x (h .0), leb-true x m (h .1))
+
+-- what a good header says
+pub record Fields (kind n byte2 map : ℕ) : Type 0 where
+  pub kinds : (1 ≤ kind) × (kind ≤ box)
+  pub length : (1 ≤ n) × (n ≤ longestSide)
+  pub second : (1 ≤ byte2) × (byte2 ≤ largestByte2 kind)
+  pub sides : map ≤ largestSideMap kind
+
+pub fields-good : (kind n byte2 map : ℕ) → fieldsOf kind n byte2 map .number ≡ 0 → Fields kind n byte2 map
+unfolding fieldsOf
+fields-good kind n byte2 map e =
+    let a = unless-good (within kind box) 2 0 _ (λ q. omega arith) e in
+    let b = unless-good (within n longestSide) 3 1 _ (λ q. omega arith) (a .1) in
+    let c = unless-good (within byte2 (largestByte2 kind)) 4 2 _ (λ q. omega arith) (b .1) in
+    let d = unless-good (leb map (largestSideMap kind)) 5 3 _ (λ q. omega arith) (c .1) in
+    record { kinds = within-is _ _ (a .0); length = within-is _ _ (b .0); second = within-is _ _ (c .0); sides = leb-true _ _ (d .0) }
+
+second-le : (t : Bool) → cond t 90 8 ≤ 90
+second-le true = omega arith
+second-le false = omega arith
+
+pub header-good : (s : List ℕ) → headerOf s .number ≡ 0 → Header s
+unfolding headerOf
+header-good s e =
+    let a = unless-good (leb 4 (length s)) 1 (length s) _ (λ q. omega arith) e in
+    let f = fields-good (byte s 0) (byte s 1) (byte s 2) (byte s 3) (a .1) in
+    record { size = leb-true 4 (length s) (a .0); one = f .length; two = (f .second .0, omega (arith, f .second .1, second-le (eqb (byte s 0) box))) }
+
+-- ---- net bytes
+
+pub nets-good : (s : List ℕ) (k i : ℕ) → netsOf s i (suc k) .number ≡ 0 → (i < length s) × (byte s i ≤ topNet) × (netsOf s (i + 1) k .number ≡ 0)
+unfolding netsOf
+nets-good s k i e =
+    let a = unless-good (ltb i (length s)) 1 (length s) _ (λ q. omega arith) e in
+    let b = unless-good (within (byte s i) topNet) 7 i _ (λ q. omega arith) (a .1) in
+    (leb-true _ _ (a .0), within-is _ _ (b .0) .1, b .1)
+
+module _ (s : List ℕ) (i : ℕ) where
+  pub nets-end : (k : ℕ) → k ≤ 0 → netsOf s i k ≡ goOn i
+  unfolding netsOf
+  nets-end zero h = refl
+  nets-end (suc k) h = absurd (not-suc-le-zero h)
+
+  pub nets-missing : (k : ℕ) → 0 < k → length s ≤ i → netsOf s i k ≡ refusal 1 (length s)
+  unfolding netsOf unless
+  nets-missing zero h l = absurd (not-suc-le-zero h)
+  nets-missing (suc k) h l = simp (le-ltb i (length s) l)
+
+  pub nets-bad : (k : ℕ) → 0 < k → i < length s → within (byte s i) topNet ≡ false → netsOf s i k ≡ refusal 7 i
+  unfolding netsOf unless
+  nets-bad zero h l e = absurd (not-suc-le-zero h)
+  nets-bad (suc k) h l e = simp (lt-ltb i (length s) l, e)
+
+  pub nets-more : (k : ℕ) → 0 < k → i < length s → within (byte s i) topNet ≡ true → netsOf s i k ≡ netsOf s (i + 1) (k - 1)
+  unfolding netsOf unless
+  nets-more zero h l e = absurd (not-suc-le-zero h)
+  nets-more (suc k) h l e =
+      let q : suc k - 1 ≡ k = omega arith in
+      simp (lt-ltb i (length s) l, e, q)
+
+-- ---- the smallest number that passes a test
+
+fails : (b : Bool) (top : ℕ) → cond b (suc top) 0 ≡ 0 → b ≡ false
+fails true top e = absurd (omega arith)
+fails false top e = refl
+
+module _ (t : ℕ → Bool) where
+  pub least-none : least t 0 ≡ 0
+  unfolding least
+  least-none = refl
+
+  -- v + 1 fails too
+  pub least-more : (v : ℕ) → least t v ≡ 0 → t (v + 1) ≡ false → least t (v + 1) ≡ 0
+  unfolding least
+  least-more v e f = rw (add-one, e, ← add-one, f)
+
+  -- v + 1 is the first that passes
+  pub least-here : (v top : ℕ) → v < top → least t v ≡ 0 → t (v + 1) ≡ true → least t top ≡ v + 1
+  unfolding least
+  least-here v zero h e f = absurd (not-suc-le-zero h)
+  least-here v (suc top) h e f =
+      by-cases (ℕ-discrete v top)
+      (λ q. let at : t (suc top) ≡ true = ap t (ap suc (sym q) ∙ sym (add-one v)) ∙ f in rw (← q, e, q, at) (sym (add-one top)))
+      (λ ne. rw (least-here v top (omega arith) e f, ne-eqb (v + 1) 0 (λ z. omega arith)))
+
+  -- none passes
+  pub least-zero : (top m : ℕ) → least t top ≡ 0 → 1 ≤ m → m ≤ top → t m ≡ false
+  unfolding least
+  least-zero zero m e l h = absurd (omega arith)
+  least-zero (suc top) m e l h =
+      by-cases (ℕ-discrete (least t top) 0)
+      (λ z. by-cases (ℕ-discrete m (suc top)) (λ q. rw q (fails (t (suc top)) top (rw z at e))) (λ ne. least-zero top m z l (omega arith)))
+      (λ nz. absurd (nz (rw (ne-eqb (least t top) 0 nz) at e)))
+
+-- the test is asked at 1 to top alone
+pub least-same : (t t′ : ℕ → Bool) (top : ℕ) → ((a : ℕ) → 1 ≤ a → a ≤ top → t a ≡ t′ a) → least t top ≡ least t′ top
+unfolding least
+least-same t t′ zero e = refl
+least-same t t′ (suc top) e = rw (e (suc top) (omega arith) (omega arith), least-same t t′ top (λ a l h. e a l (omega arith)))
+
+-- ---- the stages of the whole reading
+
+pub turned-down : {a c : Cursor} (t : Ticket) {r : Ticket} → a ≡ c → (a .number ≡ 0 → ⊥) → r ≡ refusedTicket a → r ≡ orRefused c t
+turned-down {a} {c} t e n h = h ∙ sym (rw (← e) (rw (ne-eqb (a .number) 0 n)))
+
+pub going-on : {a c : Cursor} (t : Ticket) → a ≡ c → a .number ≡ 0 → orRefused c t ≡ t
+going-on {a} {c} t e z = rw (← e) (rw (eq-eqb (a .number) 0 z))

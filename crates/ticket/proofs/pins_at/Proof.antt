@@ -1,0 +1,80 @@
+-- `ticket::pins_at` meets its contract: side by side.
+use Prim.Native.Nat.{ℕ}
+use mathlib.Core.List.{List}
+use mathlib.Core.Bool.{Bool}
+use mathlib.Core.Path.{ap, _∙_}
+use denote.Ref.{now}
+use borrow.Author.Needs.{needs}
+use Rattle.ticket.specs.Format.{byte, sideNets}
+use Rattle.ticket.proofs.pins_at.Statement.{statement}
+use Rattle.ticket.proofs.pins_at.Tie as tie
+
+shared-slice-read-n : tie.Need-shared-slice-read-n
+shared-slice-read-n c = search needs
+
+cast-n : tie.Need-cast-n
+cast-n c = search needs
+
+shared-slice-read-w : tie.Need-shared-slice-read-w
+shared-slice-read-w c = search needs
+
+cast-w : tie.Need-cast-w
+cast-w c = search needs
+
+shared-slice-read-map : tie.Need-shared-slice-read-map
+shared-slice-read-map c = search needs
+
+bit-of-requires : tie.Need-bit-of-requires
+bit-of-requires c κs = search needs
+
+side-nets-requires : tie.Need-side-nets-requires
+side-nets-requires c κs = search needs
+
+bit-of-requires-2 : tie.Need-bit-of-requires-2
+bit-of-requires-2 c κs = search needs
+
+side-nets-requires-2 : tie.Need-side-nets-requires-2
+side-nets-requires-2 c κs = search needs
+
+bit-of-requires-3 : tie.Need-bit-of-requires-3
+bit-of-requires-3 c κs = search needs
+
+side-nets-requires-3 : tie.Need-side-nets-requires-3
+side-nets-requires-3 c κs = search needs
+
+bit-of-requires-4 : tie.Need-bit-of-requires-4
+bit-of-requires-4 c κs = search needs
+
+side-nets-requires-4 : tie.Need-side-nets-requires-4
+side-nets-requires-4 c κs = search needs
+
+returns : tie.Need-returns
+returns c =
+    let s = now (c .before .before .before .before .before .before .before .before .before .before .before .before .args .ticket) in
+    let n : ℕ → Bool → List ℕ = λ from b. sideNets s b from (byte s 1) in
+    let w : ℕ → Bool → List ℕ = λ from b. sideNets s b from (byte s 2) in
+    let e = c .before .before .before .before .before .before .before .before .before .before .before .before .args .ends in
+    let north = c .before .before .before .before .before .before .side-nets .ensures ∙ ap (n 4) (c .before .before .before .before .before .before .before .bit-of .ensures) in
+    let south = c .before .before .before .before .side-nets2 .ensures ∙ ap (n (e .north .at)) (c .before .before .before .before .before .bit-of2 .ensures) in
+    let west = c .before .before .side-nets3 .ensures ∙ ap (w (e .south .at)) (c .before .before .before .bit-of3 .ensures) in
+    let east = c .side-nets4 .ensures ∙ ap (w (e .west .at)) (c .before .bit-of4 .ensures) in
+    λ i. record { north = north i; south = south i; west = west i; east = east i }
+
+pub pins-at-spec : {M : Type 1} → statement M
+pins-at-spec =
+    tie.close
+    (tie.spec
+    shared-slice-read-n
+    cast-n
+    shared-slice-read-w
+    cast-w
+    shared-slice-read-map
+    bit-of-requires
+    side-nets-requires
+    bit-of-requires-2
+    side-nets-requires-2
+    bit-of-requires-3
+    side-nets-requires-3
+    bit-of-requires-4
+    side-nets-requires-4
+    returns)

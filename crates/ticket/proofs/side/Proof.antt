@@ -1,0 +1,81 @@
+-- `ticket::side` meets its contract: the three refusals of a side in the definition's order.
+use Prim.Native.Nat.{_+_}
+use mathlib.Core.Path.{sym, ap, _∙_}
+use native.Mathlib.Omega.{arith}
+use lib.ListN.{length}
+use denote.Ref.{now}
+use borrow.Author.Tests.{le-leb, lt-leb}
+use borrow.Author.Needs.{needs}
+use Rattle.ticket.proofs.Bits.{count-good, count-bad, standing-le}
+use Rattle.ticket.proofs.Laws.{at-refused}
+use Rattle.ticket.specs.Read.{sideOf, netsOf, unless}
+use Rattle.ticket.specs.Format.{mapBytes}
+use Rattle.ticket.proofs.side.Statement.{statement}
+use Rattle.ticket.proofs.side.Tie as tie
+
+add-bytes : tie.Need-add-bytes
+add-bytes c = search needs
+
+sub-if1 : tie.Need-sub-if1
+sub-if1 c = search needs
+
+refuse-requires : tie.Need-refuse-requires
+refuse-requires c κs = search needs
+
+returns : tie.Need-returns
+unfolding sideOf unless
+returns c =
+    let a = c .before .before .before .args in
+    let short = lt-leb (a .at + mapBytes (a .places)) (length (now (a .ticket))) (omega arith) in
+    (simp short (c .refuse .ensures), omega (arith, at-refused (c .refuse .ensures)))
+
+map-count-requires : tie.Need-map-count-requires
+map-count-requires c κs = search needs
+
+refuse-requires-2 : tie.Need-refuse-requires-2
+refuse-requires-2 c κs = search needs
+
+returns-2 : tie.Need-returns-2
+unfolding sideOf unless
+returns-2 c =
+    let a = c .before .before .before .before .before .args in
+    let s = now (a .ticket) in
+    let fits = le-leb (a .at + mapBytes (a .places)) (length s) (omega arith) in
+    let bad = count-bad s (a .at) (a .places) (sym (c .before .before .map-count .ensures) ∙ c .before .if2 .taken) in
+    (simp (fits, bad) (c .refuse2 .ensures), omega (arith, at-refused (c .refuse2 .ensures)))
+
+add-nets : tie.Need-add-nets
+add-nets c = search needs
+
+nets-requires : tie.Need-nets-requires
+nets-requires c κs =
+    let a = c .before .before .before .before .args in
+    let s = now (a .ticket) in
+    let k = c .before .map-count .ensures in
+    let good = count-good s (a .at) (a .places) (λ q. c .if2 .left (k ∙ q)) in
+    (omega (arith, standing-le s (a .at) (a .places), good .1), omega arith)
+
+returns-3 : tie.Need-returns-3
+unfolding sideOf unless
+returns-3 c =
+    let a = c .before .before .before .before .before .args in
+    let s = now (a .ticket) in
+    let fits = le-leb (a .at + mapBytes (a .places)) (length s) (omega arith) in
+    let k = c .before .before .map-count .ensures in
+    let good = count-good s (a .at) (a .places) (λ q. c .before .if2 .left (k ∙ q)) in
+    (simp (fits, good .0) (c .nets .ensures .0 ∙ ap (netsOf s (a .at + mapBytes (a .places))) (k ∙ good .1)), c .nets .ensures .1)
+
+pub side-spec : {M : Type 1} → statement M
+side-spec =
+    tie.close
+    (tie.spec
+    add-bytes
+    sub-if1
+    refuse-requires
+    returns
+    map-count-requires
+    refuse-requires-2
+    returns-2
+    add-nets
+    nets-requires
+    returns-3)

@@ -1,0 +1,443 @@
+// The ticket reader: what a ticket's bytes say, or why they are refused. Public calls: read, and parse, which gives the pins as well.
+use grid::Column;
+use grid::LONGEST_SIDE;
+use grid::is_within;
+ghost use mathlib.Core.Path.{_≡_};
+ghost use Prim.Native.Nat.{ℕ, _+_, _*_, _/_, _^_, _≤_, _<_};
+ghost use lib.ListN.{length, getD};
+ghost use lib.Dec.{leb, eqb};
+ghost use Rattle.grid.specs.Grid.{Side, north, south, west, east};
+ghost use Rattle.grid.specs.Legal.{entry, topNet};
+ghost use Rattle.grid.specs.View.{within};
+ghost use Rattle.counting.specs.Counting.{count};
+ghost use Rattle.ticket.specs.Format.{byte, largestByte2, largestSideMap, isOn, standing, mapBytes, goodMap, mapCount, sideNets, netCount, pinCount, pinsIn, least};
+ghost use Rattle.ticket.specs.Read.{refusal, goOn, unless, fieldsOf, headerOf, netsOf, sideOf, after, endsOf, pinsAt, leftOver, noLone, Header, Starts, refusedTicket, acceptedTicket, judged, ticketOf, readOf};
+
+pub const MOST_TRUNK_LAYERS: usize = 8;
+
+pub const TOP_NET: usize = 180;
+
+// Where reading stands: number 0 and the next byte to read, or a refusal's number and place.
+struct Cursor {
+    pub number: u8,
+    pub place: usize,
+    pub at: usize,
+}
+
+// Where reading stands after each side.
+struct Ends {
+    pub north: Cursor,
+    pub south: Cursor,
+    pub west: Cursor,
+    pub east: Cursor,
+}
+
+// The nets of the four sides: place i at index i - 1, 0 where a place is empty.
+pub struct Pins {
+    pub north: [u8; 90],
+    pub south: [u8; 90],
+    pub west: [u8; 90],
+    pub east: [u8; 90],
+}
+
+pub struct ReadAnswer {
+    pub number: u8,
+    pub place: usize,
+    pub kind: u8,
+    pub n: Column,
+    pub byte2: u8,
+    pub nets: u8,
+}
+
+pub struct Ticket {
+    pub answer: ReadAnswer,
+    pub pins: Pins,
+}
+
+fn go_on(at: usize) -> Cursor
+    ensures { λ r. ⌜ r ≡ goOn at ⌝ }
+{
+    Cursor {
+        number: 0,
+        place: 0,
+        at,
+    }
+}
+
+fn refuse(number: u8, place: usize) -> Cursor
+    ensures { λ r. ⌜ r ≡ refusal number place ⌝ }
+{
+    Cursor {
+        number,
+        place,
+        at: 0,
+    }
+}
+
+// Refuses, unless the test holds: then reading stands as `rest` says.
+fn unless(test: bool, number: u8, place: usize, rest: Cursor) -> Cursor
+    ensures { λ r. ⌜ r ≡ unless test number place rest ⌝ }
+{
+    if test { rest } else { refuse(number, place) }
+}
+
+fn wide(x: u8) -> usize
+    ensures { λ r. ⌜ r ≡ x ⌝ }
+{
+    x as usize
+}
+
+fn largest_byte2(kind: u8) -> usize
+    ensures { λ r. ⌜ r ≡ largestByte2 kind ⌝ }
+{
+    if kind == 3 {
+        LONGEST_SIDE
+    } else {
+        MOST_TRUNK_LAYERS
+    }
+}
+
+fn largest_side_map(kind: u8) -> u8
+    ensures { λ r. ⌜ r ≡ largestSideMap kind ⌝ }
+{
+    if kind == 1 {
+        return 1;
+    }
+    if kind == 2 { 3 } else { 15 }
+}
+
+// The last test of the header comes first here, so that the first one has the last word.
+fn fields(kind: u8, n: u8, byte2: u8, map: u8) -> Cursor
+    ensures { λ r. ⌜ r ≡ fieldsOf kind n byte2 map ⌝ }
+{
+    let c = unless(map <= largest_side_map(kind), 5, 3, go_on(4));
+    let c = unless(is_within(wide(byte2), largest_byte2(kind)), 4, 2, c);
+    let c = unless(is_within(wide(n), LONGEST_SIDE), 3, 1, c);
+    unless(is_within(wide(kind), 3), 2, 0, c)
+}
+
+fn header(ticket: &[u8]) -> Cursor
+    ensures { λ r. ⌜ r ≡ headerOf (now (ticket .entry)) ⌝ }
+{
+    let size = ticket.len();
+    if size < 4 {
+        return refuse(1, size);
+    }
+    fields(ticket[0], ticket[1], ticket[2], ticket[3])
+}
+
+// Byte i of the ticket, 0 past its end.
+fn byte_at(ticket: &[u8], i: usize) -> u8
+    ensures { λ r. ⌜ r ≡ byte (now (ticket .entry)) i ⌝ }
+{
+    if i < ticket.len() { ticket[i] } else { 0 }
+}
+
+fn bit_of(b: u8, k: usize) -> bool
+    requires { ⌜ k < 8 ⌝ }
+    ensures { λ r. ⌜ r ≡ isOn b k ⌝ }
+{
+    (b >> k) % 2 == 1
+}
+
+// Whether a bit of `last` stands above its lowest `used` bits.
+fn has_spare(last: u8, used: usize) -> bool
+    requires { ⌜ used ≤ 8 ⌝ }
+    ensures { λ r. ⌜ r ≡ leb (2 ^ used) last ⌝ }
+{
+    let zeros = u8::leading_zeros(last) as usize;
+    zeros + used < 8
+}
+
+// How many bits stand in the map bytes from byte `at` on.
+fn ones_in(ticket: &[u8], at: usize, bytes: usize) -> usize
+    requires { ⌜ (bytes ≤ 12) × (at + bytes ≤ length (now ticket)) ⌝ }
+    ensures { λ r. ⌜ r ≡ standing (now (ticket .entry)) at (8 * bytes) ⌝ }
+{
+    let mut total: usize = 0;
+    let mut j = 0;
+    while j < bytes {
+        total += u8::count_ones(ticket[at + j]) as usize;
+        j += 1;
+    }
+    total
+}
+
+// How many bits of a map stand, which is how many net bytes follow it; 0 where a spare bit stands.
+fn map_count(ticket: &[u8], at: usize, places: usize) -> usize
+    requires { ⌜ (1 ≤ places) × (places ≤ 90) × (at + mapBytes places ≤ length (now ticket)) ⌝ }
+    ensures { λ r. ⌜ r ≡ mapCount (now (ticket .entry)) at places ⌝ }
+{
+    let bytes = (places + 7) / 8;
+    let full = bytes - 1;
+    if has_spare(ticket[at + full], places - 8 * full) {
+        return 0;
+    }
+    ones_in(ticket, at, bytes)
+}
+
+fn nets(ticket: &[u8], from: usize, count: usize) -> Cursor
+    requires { ⌜ (count ≤ 96) × (from ≤ length (now ticket)) ⌝ }
+    ensures meets { λ r. ⌜ r ≡ netsOf (now (ticket .entry)) from count ⌝ }
+    ensures inside { λ r. ⌜ r .at ≤ length (now (ticket .entry)) ⌝ }
+{
+    let mut at = from;
+    let mut left = count;
+    while 0 < left {
+        if ticket.len() <= at {
+            return refuse(1, ticket.len());
+        }
+        if !is_within(wide(ticket[at]), TOP_NET) {
+            return refuse(7, at);
+        }
+        at += 1;
+        left -= 1;
+    }
+    go_on(at)
+}
+
+// A side whose map starts at byte `at`.
+fn side(ticket: &[u8], at: usize, places: usize) -> Cursor
+    requires { ⌜ (1 ≤ places) × (places ≤ 90) × (at ≤ length (now ticket)) ⌝ }
+    ensures meets { λ r. ⌜ r ≡ sideOf (now (ticket .entry)) at places ⌝ }
+    ensures inside { λ r. ⌜ r .at ≤ length (now (ticket .entry)) ⌝ }
+{
+    let bytes = (places + 7) / 8;
+    if ticket.len() - at < bytes {
+        return refuse(1, ticket.len());
+    }
+    let count = map_count(ticket, at, places);
+    if count == 0 {
+        return refuse(6, at);
+    }
+    nets(ticket, at + bytes, count)
+}
+
+// The next side, read where it stands and nothing is refused before it.
+fn after(ticket: &[u8], stands: bool, places: usize, c: Cursor) -> Cursor
+    requires { ⌜ (1 ≤ places) × (places ≤ 90) × (c .at ≤ length (now ticket)) ⌝ }
+    ensures meets { λ r. ⌜ r ≡ after (now (ticket .entry)) stands places c ⌝ }
+    ensures inside { λ r. ⌜ r .at ≤ length (now (ticket .entry)) ⌝ }
+{
+    if c.number != 0 {
+        return c;
+    }
+    if stands {
+        let at = c.at;
+        return side(ticket, at, places);
+    }
+    c
+}
+
+// All sides, after a good header.
+fn sides(ticket: &[u8]) -> Ends
+    requires { ⌜ Header (now ticket) ⌝ }
+    ensures meets { λ r. ⌜ r ≡ endsOf (now (ticket .entry)) ⌝ }
+    ensures inside { λ r. ⌜ Starts (now (ticket .entry)) r ⌝ }
+{
+    let n = ticket[1] as usize;
+    let w = ticket[2] as usize;
+    let map = ticket[3];
+    let north = after(ticket, bit_of(map, 0), n, go_on(4));
+    let south = after(ticket, bit_of(map, 1), n, north);
+    let west = after(ticket, bit_of(map, 2), w, south);
+    let east = after(ticket, bit_of(map, 3), w, west);
+    Ends {
+        north,
+        south,
+        west,
+        east,
+    }
+}
+
+// The nets of a side whose map starts at byte `at`.
+fn side_nets(ticket: &[u8], stands: bool, at: usize, places: usize) -> [u8; 90]
+    requires { ⌜ (places ≤ 90) × (at ≤ length (now ticket)) ⌝ }
+    ensures { λ r. ⌜ r ≡ sideNets (now (ticket .entry)) stands at places ⌝ }
+{
+    let mut list = [0u8; 90];
+    if !stands {
+        return list;
+    }
+    let mut next = at + (places + 7) / 8;
+    let mut i: usize = 0;
+    while i < places {
+        if bit_of(byte_at(ticket, at + i / 8), i % 8) {
+            list[i] = byte_at(ticket, next);
+            next += 1;
+        }
+        i += 1;
+    }
+    list
+}
+
+// The nets of all sides, once their ends are known.
+fn pins_at(ticket: &[u8], ends: Ends) -> Pins
+    requires { ⌜ Header (now ticket) ⌝ }
+    requires { ⌜ Starts (now ticket) ends ⌝ }
+    ensures { λ r. ⌜ r ≡ pinsAt (now (ticket .entry)) ends ⌝ }
+{
+    let n = ticket[1] as usize;
+    let w = ticket[2] as usize;
+    let map = ticket[3];
+    let north = side_nets(ticket, bit_of(map, 0), 4, n);
+    let south = side_nets(ticket, bit_of(map, 1), ends.north.at, n);
+    let west = side_nets(ticket, bit_of(map, 2), ends.south.at, w);
+    let east = side_nets(ticket, bit_of(map, 3), ends.west.at, w);
+    Pins {
+        north,
+        south,
+        west,
+        east,
+    }
+}
+
+// The counts of each number, with those of a list added.
+fn tally(counts: [u16; 256], list: [u8; 90]) -> [u16; 256]
+    requires { ⌜ ((v : ℕ) → v < 256 → getD counts v 0 ≤ 270) ⌝ }
+    ensures { λ r. ⌜ ((v : ℕ) → v < 256 → getD r v 0 ≡ getD counts v 0 + count (λ a. eqb (entry list a) v) 90) ⌝ }
+{
+    let mut c = counts;
+    let mut i: usize = 0;
+    while i < LONGEST_SIDE {
+        let v = list[i] as usize;
+        c[v] = c[v] + 1;
+        i += 1;
+    }
+    c
+}
+
+// How many pins each net has.
+fn tally_all(p: Pins) -> [u16; 256]
+    ensures { λ r. ⌜ ((v : ℕ) → v < 256 → getD r v 0 ≡ pinCount (pinsIn p) v) ⌝ }
+{
+    let north = p.north;
+    let south = p.south;
+    let west = p.west;
+    let east = p.east;
+    let c = tally([0u16; 256], north);
+    let c = tally(c, south);
+    let c = tally(c, west);
+    tally(c, east)
+}
+
+// The smallest net with one pin, 0 where there is none.
+fn lone(counts: [u16; 256]) -> usize
+    ensures { λ r. ⌜ r ≡ least (λ v. eqb (getD counts v 0) 1) topNet ⌝ }
+{
+    let mut v: usize = 0;
+    while v < TOP_NET {
+        v += 1;
+        if counts[v] == 1 {
+            return v;
+        }
+    }
+    0
+}
+
+// How many nets have pins.
+fn distinct(counts: [u16; 256]) -> u8
+    ensures { λ r. ⌜ r ≡ count (λ v. leb 1 (getD counts v 0)) topNet ⌝ }
+{
+    let mut total: u8 = 0;
+    let mut v: usize = 0;
+    while v < TOP_NET {
+        v += 1;
+        if 1 <= counts[v] {
+            total += 1;
+        }
+    }
+    total
+}
+
+fn left_over(ticket: &[u8], at: usize) -> Cursor
+    ensures { λ r. ⌜ r ≡ leftOver (now (ticket .entry)) at ⌝ }
+{
+    unless(ticket.len() <= at, 8, at, go_on(at))
+}
+
+fn no_lone(lone: usize) -> Cursor
+    ensures { λ r. ⌜ r ≡ noLone lone ⌝ }
+{
+    unless(lone == 0, 9, lone, go_on(0))
+}
+
+fn refused(c: Cursor) -> Ticket
+    ensures { λ r. ⌜ r ≡ refusedTicket c ⌝ }
+{
+    let empty = [0u8; 90];
+    Ticket {
+        answer: ReadAnswer {
+            number: c.number,
+            place: c.place,
+            kind: 0,
+            n: Column(0),
+            byte2: 0,
+            nets: 0,
+        },
+        pins: Pins {
+            north: empty,
+            south: empty,
+            west: empty,
+            east: empty,
+        },
+    }
+}
+
+fn accepted(ticket: &[u8], nets: u8, pins: Pins) -> Ticket
+    requires { ⌜ Header (now ticket) ⌝ }
+    ensures { λ r. ⌜ r ≡ acceptedTicket (now (ticket .entry)) nets pins ⌝ }
+{
+    Ticket {
+        answer: ReadAnswer {
+            number: 0,
+            place: 0,
+            kind: ticket[0],
+            n: Column(ticket[1] as usize),
+            byte2: ticket[2],
+            nets,
+        },
+        pins,
+    }
+}
+
+// The last test, once all bytes are read.
+fn judged(ticket: &[u8], pins: Pins) -> Ticket
+    requires { ⌜ Header (now ticket) ⌝ }
+    ensures { λ r. ⌜ r ≡ judged (now (ticket .entry)) pins ⌝ }
+{
+    let counts = tally_all(pins);
+    let last = no_lone(lone(counts));
+    if last.number != 0 {
+        return refused(last);
+    }
+    accepted(ticket, distinct(counts), pins)
+}
+
+// The whole reading, with the pins: for the crates that go on from a good reading.
+pub fn parse(ticket: &[u8]) -> Ticket
+    ensures { λ r. ⌜ r ≡ ticketOf (now (ticket .entry)) ⌝ }
+{
+    let head = header(ticket);
+    if head.number != 0 {
+        return refused(head);
+    }
+    let ends = sides(ticket);
+    let end = ends.east;
+    if end.number != 0 {
+        return refused(end);
+    }
+    let whole = left_over(ticket, end.at);
+    if whole.number != 0 {
+        return refused(whole);
+    }
+    judged(ticket, pins_at(ticket, ends))
+}
+
+// Public call Read.
+pub fn read(ticket: &[u8]) -> ReadAnswer
+    ensures { λ r. ⌜ r ≡ readOf (now (ticket .entry)) ⌝ }
+{
+    let whole = parse(ticket);
+    whole.answer
+}
