@@ -1,0 +1,283 @@
+//! Writes what the vector programs read and must print; with `--check` only says whether the stored files are these.
+//!
+//!     cargo run --manifest-path tests/slow/Cargo.toml --bin generate [-- --check]
+
+use slow::judge::{self, Grid};
+use slow::maze::route;
+use slow::tickets::{self, damaged, encode, of_shape, Numbers, Places, DOCUMENT};
+use slow::{read, survey, EAST, NORTH, SOUTH, WEST};
+use std::path::Path;
+
+fn record(t: &[u8]) -> Vec<u8> {
+    let mut out = (t.len() as u16).to_le_bytes().to_vec();
+    out.extend(t);
+    out
+}
+
+fn row(numbers: &[u64]) -> String {
+    let words: Vec<String> = numbers.iter().map(u64::to_string).collect();
+    words.join(" ") + "\n"
+}
+
+fn document() -> Vec<Vec<u8>> {
+    DOCUMENT.iter().map(|(_, t)| t.to_vec()).collect()
+}
+
+fn read_tickets() -> Vec<Vec<u8>> {
+    let r = &mut Numbers::new(3);
+    let mut out = vec![vec![]];
+    out.extend(document());
+    let large = of_shape(r, 3, 13, 9, 7);
+    for t in [DOCUMENT[0].1, DOCUMENT[4].1, DOCUMENT[8].1, &large] {
+        out.extend((0..=t.len()).map(|size| t[..size].to_vec()));
+    }
+    for kind in [0, 1, 2, 3, 4, 128, 255] {
+        out.extend([0, 1, 2, 3, 4, 15, 16, 255].map(|sides| vec![kind, 2, 1, sides]));
+    }
+    for kind in 1..=3 {
+        for n in [0, 1, 90, 91, 255] {
+            out.extend([0, 1, 8, 9, 90, 91].map(|byte2| vec![kind, n, byte2, 0]));
+        }
+    }
+    for places in [1u8, 7, 8, 9, 15, 16, 17, 89, 90] {
+        for last in [0u8, 1, 2, 3, 4, 127, 128, 255] {
+            let mut t = vec![1, places, 1, 1];
+            t.extend(vec![0; places.div_ceil(8) as usize - 1]);
+            t.push(last);
+            t.extend(vec![1; last.count_ones() as usize]);
+            out.push(t);
+        }
+    }
+    for net in [0, 1, 180, 181, 255] {
+        out.push(vec![1, 3, 1, 1, 7, 1, 1, net]);
+        out.push(vec![1, 3, 1, 1, 7, net, net, 5]);
+        out.push(vec![1, 2, 1, 1, 3, net]);
+    }
+    let full: Places = (0..4).flat_map(|s| (1..=90).map(move |i| ((s, i), ((i + s) % 180 + 1) as u8))).collect();
+    let full = encode(3, 90, 90, &full);
+    out.push(full[..full.len() - 1].to_vec());
+    out.push([&full[..], &[1]].concat());
+    out.push(full);
+    for _ in 0..260 {
+        let t = tickets::random(r);
+        out.push(if r.below(3) > 0 { damaged(r, &t) } else { t });
+    }
+    out
+}
+
+fn survey_tickets() -> Vec<Vec<u8>> {
+    let r = &mut Numbers::new(5);
+    let mut out = vec![vec![]];
+    out.extend(document());
+    out.push(vec![0; 1000]);
+    for (kind, n, byte2) in [(1, 90, 1), (1, 90, 8), (2, 90, 1), (2, 90, 3), (3, 90, 90), (3, 90, 1), (3, 1, 90), (3, 40, 12), (3, 89, 90), (3, 1, 1)] {
+        out.extend([0, 5, 10].map(|tenths| of_shape(r, kind, n, byte2, tenths)));
+    }
+    for (a, b) in [(NORTH, EAST), (NORTH, WEST), (SOUTH, EAST), (SOUTH, WEST)] {
+        out.push(tickets::corner(r, 9, 7, a, b));
+        out.push(tickets::corner(r, 5, 11, a, b));
+    }
+    for _ in 0..220 {
+        let t = tickets::random(r);
+        out.push(if r.below(3) == 0 { damaged(r, &t) } else { t });
+    }
+    out
+}
+
+/// A wiring for Check: its ticket, its sizes, and the length of the scratch.
+struct Case {
+    ticket: Vec<u8>,
+    w: usize,
+    k: usize,
+    first: bool,
+    scratch: usize,
+    wiring: Vec<u8>,
+}
+
+fn case(ticket: &[u8], w: usize, k: usize, first: bool, wiring: Vec<u8>) -> Case {
+    Case { ticket: ticket.to_vec(), w, k, first, scratch: wiring.len(), wiring }
+}
+
+/// A random small ticket with a legal wiring.
+fn wired(r: &mut Numbers) -> Case {
+    loop {
+        let kind = 1 + r.below(3) as u8;
+        let g = Grid { n: 1 + r.below(9), w: 1 + r.below(6), k: 1 + r.below(7), first: r.below(2) == 1 };
+        let byte2 = if kind == 3 { g.w } else { 1 + r.below(8) };
+        let tenths = r.below(8);
+        let t = of_shape(r, kind, g.n, byte2, tenths);
+        let ticket = read::read(&t).expect("a good ticket");
+        let mut order = ticket.nets();
+        r.shuffle(&mut order);
+        if let Some(x) = route(g, &ticket.pins, &order) {
+            return case(&t, g.w, g.k, g.first, x);
+        }
+    }
+}
+
+/// The wiring with a point or two changed: metal taken away, loose metal, another net's, or a number of no net.
+fn spoiled(r: &mut Numbers, x: &[u8], nets: &[u8]) -> Vec<u8> {
+    let mut x = x.to_vec();
+    let used: Vec<usize> = (0..x.len()).filter(|q| x[*q] != 0).collect();
+    for _ in 0..1 + r.below(2) {
+        let anywhere = r.below(x.len());
+        match r.below(4) {
+            0 if !used.is_empty() => x[r.pick(&used)] = 0,
+            1 if !nets.is_empty() => x[anywhere] = r.pick(nets),
+            2 if !used.is_empty() => x[r.pick(&used)] = r.pick(nets),
+            _ if r.below(3) == 0 => x[anywhere] = 1 + r.below(255) as u8,
+            _ => {}
+        }
+    }
+    x
+}
+
+fn layered(n: usize, w: usize, k: usize, value: impl Fn(usize, usize, usize) -> u8) -> Vec<u8> {
+    let mut out = Vec::with_capacity(n * w * k);
+    for l in 1..=k {
+        for j in 1..=w {
+            out.extend((1..=n).map(|i| value(i, j, l)));
+        }
+    }
+    out
+}
+
+/// K1 to K3 of the document, joins only through a pin, the order of tracks, 255 layers, empty tickets, and large combs.
+fn drawn_cases() -> Vec<Case> {
+    let pins = |list: &[(usize, usize, u8)]| list.iter().map(|(s, i, m)| ((*s, *i), *m)).collect::<Places>();
+    let row2 = encode(1, 2, 1, &pins(&[(NORTH, 1, 1), (NORTH, 2, 1)]));
+    let row3 = encode(1, 3, 1, &pins(&[(NORTH, 1, 1), (NORTH, 2, 1)]));
+    let mut out = vec![
+        case(&row2, 1, 2, false, vec![1, 1, 1, 1]),
+        case(&row2, 1, 2, false, vec![1, 1, 0, 0]),
+        case(&row2, 1, 1, true, vec![1, 1]),
+        case(&row3, 1, 2, false, vec![1, 1, 1, 1, 1, 0]),
+    ];
+    for a in 4..9 {
+        out.push(case(&row2, 1, 2, false, vec![1, 1, 1, a % 3]));
+        out.push(case(&row2, 1, 2, false, vec![a % 3, 1, a, a]));
+    }
+    let through = encode(3, 2, 3, &pins(&[(NORTH, 1, 7), (WEST, 1, 7), (NORTH, 2, 9), (SOUTH, 2, 9)]));
+    for (low, top) in [(1, 3), (1, 2), (2, 3), (2, 2)] {
+        let x = layered(2, 3, 5, |i, j, l| match (i, l) {
+            (1, 1) | (1, 5) => 7,
+            (1, 2) if j == 1 => 7,
+            (2, 1) | (2, 3) if (low..=top).contains(&j) => 9,
+            _ => 0,
+        });
+        out.push(case(&through, 3, 5, false, x));
+    }
+    let south = encode(2, 2, 1, &pins(&[(SOUTH, 1, 4), (SOUTH, 2, 4)]));
+    for track in 1..=3 {
+        for first in [false, true] {
+            out.push(case(&south, 3, 2, first, layered(2, 3, 2, |_, j, _| if j == track { 4 } else { 0 })));
+        }
+    }
+    let tower = encode(2, 2, 1, &pins(&[(NORTH, 1, 180), (SOUTH, 2, 180)]));
+    for first in [false, true] {
+        for hole in [0, 1, 128, 255] {
+            out.push(case(&tower, 1, 255, first, layered(2, 1, 255, |_, _, l| if l != hole { 180 } else { 0 })));
+        }
+    }
+    for kind in 1..=3 {
+        let empty = encode(kind, 3, 2, &Places::new());
+        out.push(case(&empty, 2, 2, false, vec![0; 12]));
+        out.push(case(&empty, 2, 2, true, layered(3, 2, 2, |i, j, l| if i + j + l == 7 { 5 } else { 0 })));
+    }
+    let wide: Places = (1..=90).map(|i| ((NORTH, i), 1 + (i as u8 - 1) / 2)).collect();
+    let wide = encode(1, 90, 1, &wide);
+    for missing in [None, Some(0), Some(90 * 45), Some(90 * 90 * 2 - 1)] {
+        let mut x = layered(90, 90, 2, |i, _, _| 1 + (i as u8 - 1) / 2);
+        if let Some(q) = missing {
+            x[q] = 0;
+        }
+        out.push(case(&wide, 90, 2, false, x));
+    }
+    out
+}
+
+/// Refusals 1 and 11 to 13, and their order.
+fn refused_cases(r: &mut Numbers) -> Vec<Case> {
+    let mut out = Vec::new();
+    for _ in 0..4 {
+        let c = wired(r);
+        for w in [0, 1, c.w, 90, 91, 65535] {
+            out.extend([0, 1, c.k, 255, 256, 65535].map(|k| case(&c.ticket, w, k, c.first, c.wiring.clone())));
+        }
+        let with = |scratch: usize, x: &[u8]| Case { scratch, ..case(&c.ticket, c.w, c.k, c.first, x.to_vec()) };
+        let size = c.wiring.len();
+        out.push(with(size, &c.wiring[1..]));
+        out.push(with(size, &[&c.wiring[..], &[0]].concat()));
+        out.push(with(size - 1, &c.wiring));
+        out.push(with(size + 5, &c.wiring));
+        out.push(with(0, &c.wiring));
+        out.push(with(0, &c.wiring[1..]));
+        out.push(Case { w: 0, ..with(0, &[]) });
+        out.push(Case { ticket: c.ticket[..c.ticket.len() - 1].to_vec(), k: 0, ..with(0, &c.wiring) });
+    }
+    let t = of_shape(r, 3, 4, 3, 5);
+    out.extend([2, 3, 4].map(|w| case(&t, w, 2, false, vec![0; 24])));
+    out
+}
+
+fn check_cases() -> Vec<Case> {
+    let r = &mut Numbers::new(7);
+    let mut out = drawn_cases();
+    out.extend(refused_cases(r));
+    for _ in 0..330 {
+        let c = wired(r);
+        let nets = read::read(&c.ticket).expect("a good ticket").nets();
+        for _ in 0..2 {
+            let x = spoiled(r, &c.wiring, &nets);
+            let scratch = x.len() + r.below(3);
+            out.push(Case { scratch, ..case(&c.ticket, c.w, c.k, c.first, x) });
+        }
+        if r.below(6) == 0 {
+            out.push(case(&c.ticket, c.w, c.k, !c.first, c.wiring.clone()));
+        }
+        out.push(c);
+    }
+    out
+}
+
+fn check_record(c: &Case) -> Vec<u8> {
+    let mut out = record(&c.ticket);
+    out.extend((c.w as u16).to_le_bytes());
+    out.extend((c.k as u16).to_le_bytes());
+    out.push(c.first as u8);
+    out.extend(&(c.scratch as u32).to_le_bytes()[..3]);
+    out.extend(&(c.wiring.len() as u32).to_le_bytes()[..3]);
+    out.extend(&c.wiring);
+    out
+}
+
+/// What each program reads and must print.
+fn vectors() -> Vec<(&'static str, Vec<u8>, String)> {
+    let (reads, surveys, checks) = (read_tickets(), survey_tickets(), check_cases());
+    let records = |list: &[Vec<u8>]| list.iter().flat_map(|t| record(t)).collect();
+    let verdict = |c: &Case| row(&judge::answer(&c.ticket, c.w, c.k, c.first, &c.wiring, c.scratch));
+    vec![
+        ("read_vectors", records(&reads), reads.iter().map(|t| row(&read::answer(t))).collect()),
+        ("survey_vectors", records(&surveys), surveys.iter().map(|t| survey::line(t)).collect()),
+        ("check_vectors", checks.iter().flat_map(check_record).collect(), checks.iter().map(verdict).collect()),
+    ]
+}
+
+fn main() {
+    let crates = Path::new(env!("CARGO_MANIFEST_DIR")).join("../../crates");
+    let only_check = std::env::args().any(|a| a == "--check");
+    let mut bad = 0;
+    for (name, stdin, stdout) in vectors() {
+        for (file, content) in [("stdin", stdin), ("stdout", stdout.into_bytes())] {
+            let path = crates.join(name).join(file);
+            if only_check {
+                let same = std::fs::read(&path).is_ok_and(|stored| stored == content);
+                println!("{}: {name}/{file} is what tests/slow generates", if same { "ok" } else { "FAILED" });
+                bad += !same as i32;
+            } else if crates.join(name).is_dir() {
+                std::fs::write(&path, content).expect("the file is written");
+            }
+        }
+    }
+    std::process::exit(bad.min(1));
+}

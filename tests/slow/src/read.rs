@@ -1,0 +1,67 @@
+//! Read: bytes to a ticket, or the first refusal in the document's order.
+
+use crate::{Pin, Refusal, Ticket, EAST, NORTH, SOUTH, WEST};
+
+pub fn read(t: &[u8]) -> Result<Ticket, Refusal> {
+    if t.len() < 4 {
+        return Err(Refusal(1, t.len()));
+    }
+    let kind = t[0];
+    let allowed: &[usize] = match kind {
+        1 => &[NORTH],
+        2 => &[NORTH, SOUTH],
+        3 => &[NORTH, SOUTH, WEST, EAST],
+        _ => return Err(Refusal(2, 0)),
+    };
+    let n = t[1] as usize;
+    if !(1..=90).contains(&n) {
+        return Err(Refusal(3, 1));
+    }
+    let byte2 = t[2] as usize;
+    if !(1..=if kind == 3 { 90 } else { 8 }).contains(&byte2) {
+        return Err(Refusal(4, 2));
+    }
+    let standing: Vec<usize> = (0..8).filter(|s| t[3] >> s & 1 == 1).collect();
+    if standing.iter().any(|s| !allowed.contains(s)) {
+        return Err(Refusal(5, 3));
+    }
+    let mut at = 4;
+    let mut pins = Vec::new();
+    for side in standing {
+        let places = if side == NORTH || side == SOUTH { n } else { byte2 };
+        let size = places.div_ceil(8);
+        if at + size > t.len() {
+            return Err(Refusal(1, t.len()));
+        }
+        let bits: Vec<usize> = (0..8 * size).filter(|i| t[at + i / 8] >> (i % 8) & 1 == 1).collect();
+        if bits.is_empty() || bits[bits.len() - 1] >= places {
+            return Err(Refusal(6, at));
+        }
+        at += size;
+        for i in bits {
+            let Some(&net) = t.get(at) else { return Err(Refusal(1, t.len())) };
+            if !(1..=180).contains(&net) {
+                return Err(Refusal(7, at));
+            }
+            pins.push(Pin { side, place: i + 1, net });
+            at += 1;
+        }
+    }
+    if at < t.len() {
+        return Err(Refusal(8, at));
+    }
+    for net in 1..=180 {
+        if pins.iter().filter(|p| p.net == net).count() == 1 {
+            return Err(Refusal(9, net as usize));
+        }
+    }
+    Ok(Ticket { kind, n, byte2, pins })
+}
+
+/// number, place, kind, n, byte 2, nets
+pub fn answer(t: &[u8]) -> [u64; 6] {
+    match read(t) {
+        Err(Refusal(number, place)) => [number as u64, place as u64, 0, 0, 0, 0],
+        Ok(t) => [0, 0, t.kind as u64, t.n as u64, t.byte2 as u64, t.nets().len() as u64],
+    }
+}
