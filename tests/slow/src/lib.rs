@@ -3,6 +3,7 @@
 //! Written from the document alone; it shares no code with the crates. Refusals are a number and a place.
 
 pub mod judge;
+pub mod lay;
 pub mod maze;
 pub mod read;
 pub mod survey;
