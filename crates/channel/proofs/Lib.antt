@@ -1,0 +1,4 @@
+pub mod Plans
+pub mod Layers
+pub mod Runs
+pub mod Drawings

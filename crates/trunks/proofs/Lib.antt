@@ -1,0 +1,5 @@
+pub mod Steps
+pub mod Lent
+pub mod Listings
+pub mod Gallai
+pub mod Promise

@@ -1,0 +1,191 @@
+// The nets' spans, leftmost to rightmost column, listed by leftmost column and given trunk places Gallai's way: two nets share a place only if
+// their spans have no column in common.
+ghost use mathlib.Core.Path.{_≡_};
+ghost use Prim.Native.Nat.{ℕ, _*_, _<_, _≤_};
+ghost use lib.ListN.{length, take, getD};
+ghost use Rattle.grid.specs.Legal.{topNet};
+ghost use Rattle.trunks.specs.Packing.{noSpan, firstFree, freshPacking, placed, packed, Packable};
+ghost use Rattle.trunks.specs.Listing.{pinAt, Rights, Listed};
+ghost use Rattle.trunks.specs.Trunks.{Placed};
+use grid::Column;
+
+pub struct Span {
+    pub net: u8,
+    pub left: u8,
+    pub right: u8,
+}
+
+fn wide(x: u8) -> usize
+    ensures { λ r. ⌜ r ≡ x ⌝ }
+{
+    x as usize
+}
+
+// The net at pin `q`, counted from 0, of the north and the south pin of each column in turn.
+fn pin_at(north: &[u8; 90], south: &[u8; 90], q: usize) -> u8
+    requires { ⌜ q < 180 ⌝ }
+    ensures { λ r. ⌜ r ≡ pinAt (now (north .entry)) (now (south .entry)) q ⌝ }
+{
+    let i = q / 2;
+    if q % 2 == 0 {
+        return north[i];
+    }
+    south[i]
+}
+
+// The rightmost column of each net.
+fn rights(north: &[u8; 90], south: &[u8; 90], n: usize) -> [u8; 256]
+    requires { ⌜ n ≤ 90 ⌝ }
+    ensures { λ r. ⌜ Rights (pinAt (now (north .entry)) (now (south .entry))) (2 * n) r ⌝ }
+{
+    let mut right = [0u8; 256];
+    let pins = 2 * n;
+    let mut q = 0;
+    while q < pins {
+        let net = wide(pin_at(north, south, q));
+        let column = q / 2 + 1;
+        q += 1;
+        if net != 0 {
+            right[net] = column as u8;
+        }
+    }
+    right
+}
+
+// The leftmost column of each net, and the spans of the nets that lie in more than one column.
+pub struct Listing {
+    pub left: [u8; 256],
+    pub spans: [Span; 180],
+    pub count: usize,
+}
+
+// A net's first pin, column by column, is its leftmost; so the spans are listed by leftmost column as they are met.
+fn list_spans(north: &[u8; 90], south: &[u8; 90], n: usize, right: &[u8; 256]) -> Listing
+    requires { ⌜ n ≤ 90 ⌝ }
+    ensures { λ r. ⌜ (r .count ≤ 180) × Listed (pinAt (now (north .entry)) (now (south .entry))) (2 * n) (r .left) (now (right .entry)) (take (r .count) (r .spans)) ⌝ }
+{
+    let mut left = [0u8; 256];
+    let mut spans = [Span {
+        net: 0,
+        left: 0,
+        right: 0,
+    }; 180];
+    let mut count = 0;
+    let pins = 2 * n;
+    let mut q = 0;
+    while q < pins {
+        let net = wide(pin_at(north, south, q));
+        let column = q / 2 + 1;
+        q += 1;
+        if net != 0 {
+            if left[net] == 0 {
+                left[net] = column as u8;
+                let last = right[net];
+                if column < wide(last) {
+                    spans[count] = Span {
+                        net: net as u8,
+                        left: column as u8,
+                        right: last,
+                    };
+                    count += 1;
+                }
+            }
+        }
+    }
+    Listing { left, spans, count }
+}
+
+// The packing under way: the rightmost column of each place's last span, 0 where the place is empty, and each net's place.
+// There are no more places than spans.
+pub struct Packing {
+    pub lasts: [u8; 180],
+    pub place: [u8; 256],
+}
+
+fn fresh() -> Packing
+    ensures { λ r. ⌜ r ≡ freshPacking ⌝ }
+{
+    let lasts = [0u8; 180];
+    let place = [0u8; 256];
+    Packing { lasts, place }
+}
+
+// The first place that is free from column `left` on, or the number of places where none is.
+fn first_free(lasts: &[u8], left: u8) -> usize
+    ensures { λ r. ⌜ r ≡ firstFree (now (lasts .entry)) left ⌝ }
+{
+    let mut i = 0;
+    while i < lasts.len() {
+        if lasts[i] < left {
+            return i;
+        }
+        i += 1;
+    }
+    i
+}
+
+// The span `s` takes the first place that is free.
+fn place_one(p: Packing, s: Span) -> Packing
+    requires { ⌜ firstFree (p .lasts) (s .left) < 180 ⌝ }
+    ensures { λ r. ⌜ r ≡ placed p s ⌝ }
+{
+    let lasts = p.lasts;
+    let at = first_free(&lasts, s.left);
+    let net = s.net as usize;
+    let mut q = p;
+    q.lasts[at] = s.right;
+    q.place[net] = at as u8;
+    q
+}
+
+// The same of element `k` of a lent slice: it is taken out, and handed on.
+fn place_next(spans: &[Span], k: usize, p: Packing) -> Packing
+    requires { ⌜ (k < length (now spans)) × (firstFree (p .lasts) (getD (now spans) k noSpan .left) < 180) ⌝ }
+    ensures { λ r. ⌜ r ≡ placed p (getD (now (spans .entry)) k noSpan) ⌝ }
+{
+    place_one(p, spans[k])
+}
+
+// The place of each span of a lent slice, one after the other.
+fn pack_spans(spans: &[Span]) -> Packing
+    requires { ⌜ Packable freshPacking (now spans) ⌝ }
+    ensures { λ r. ⌜ r ≡ packed freshPacking (now (spans .entry)) ⌝ }
+{
+    let mut p = fresh();
+    let mut k = 0;
+    while k < spans.len() {
+        let next = place_next(spans, k, p);
+        p = next;
+        k += 1;
+    }
+    p
+}
+
+// The first `n` elements of an array are lent to `pack_spans`. This contract says nothing of a slice, so no caller needs a walk by hand.
+fn pack(all: [Span; 180], n: usize) -> Packing
+    requires { ⌜ (n ≤ 180) × Packable freshPacking (take n all) ⌝ }
+    ensures { λ r. ⌜ r ≡ packed freshPacking (take n all) ⌝ }
+{
+    pack_spans(&all[..n])
+}
+
+// Each net's span and trunk place.
+pub struct Trunks {
+    pub left: [u8; 256],
+    pub right: [u8; 256],
+    pub place: [u8; 256],
+}
+
+// The trunk places of a row or a channel. (For our own crates.)
+pub fn place_trunks(north: &[u8; 90], south: &[u8; 90], n: Column) -> Trunks
+    requires { ⌜ (n .0 ≤ 90) × ((a : ℕ) → getD (now north) a 0 ≤ topNet) × ((a : ℕ) → getD (now south) a 0 ≤ topNet) ⌝ }
+    ensures { λ r. ⌜ Placed (now (north .entry)) (now (south .entry)) (n .0) r ⌝ }
+{
+    let right = rights(north, south, n.0);
+    let list = list_spans(north, south, n.0, &right);
+    let left = list.left;
+    let spans = list.spans;
+    let packing = pack(spans, list.count);
+    let place = packing.place;
+    Trunks { left, right, place }
+}
