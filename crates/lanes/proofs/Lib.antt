@@ -1,0 +1,4 @@
+pub mod Tables
+pub mod Wanting
+pub mod Passes
+pub mod Laning

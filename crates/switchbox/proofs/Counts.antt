@@ -1,0 +1,53 @@
+-- The tables of counts say how many pins each net has on each side, and so how many nets there are of each corner kind.
+use Prim.Native.Nat.{ℕ, _<_}
+use mathlib.Core.Path.{_≡_, ap, ap₂, subst}
+use mathlib.Core.List.{List}
+use mathlib.Core.Bool.{Bool, _&&_}
+use native.Mathlib.Omega.{arith}
+use lib.Dec.{ltb, eqb}
+use lib.ListN.{length, getD}
+use Rattle.counting.specs.Counting.{bit}
+use Rattle.counting.proofs.Sums.{sum-same}
+use Rattle.grid.specs.Grid.{Grid, Side, north, south, west, east}
+use Rattle.grid.specs.Legal.{Pins, topNet, nets, pinsOf}
+use Rattle.switchbox_law.specs.Rules.{tally, opposite, corner, corners}
+use Rattle.switchbox_law.specs.Drawing.{Mirror, plain, leftRight, topBottom, both, Top}
+use Rattle.lanes.specs.Tables.{Counted}
+use Rattle.switchbox.specs.Box.{cornerAt, standing, Tables, Chosen}
+
+-- counts is the table of side s
+abbrev pub Table : Grid → Pins → Side → List ℕ → Type 0
+Table g p s counts = (m : ℕ) → m < 181 → getD counts m 0 ≡ tally g p m s
+
+corner-count : (g : Grid) (p : Pins) (a b : Side) (la lb lc ld : List ℕ) → Table g p a la → Table g p b lb → Table g p (opposite a) lc → Table g p (opposite b) ld
+    → nets (cornerAt la lb lc ld) ≡ corners g p a b
+unfolding corner
+corner-count g p a b la lb lc ld ha hb hc hd =
+    sum-same _ _ topNet (λ m i. (let k : m < 181 = omega arith in
+    ap₂ (λ (u v : Bool). bit (u && v))
+    (ap₂ (λ (u v : Bool). u && v) (ap₂ (λ (x y : ℕ). ltb 0 x && ltb 0 y) (ha m k) (hb m k)) (ap (λ (x : ℕ). eqb x 0) (hc m k)))
+    (ap (λ (x : ℕ). eqb x 0) (hd m k))))
+
+pub top-same : (a b c d a′ b′ c′ d′ : ℕ) (μ : Mirror) → a ≡ a′ → b ≡ b′ → c ≡ c′ → d ≡ d′ → Top a b c d μ → Top a′ b′ c′ d′ μ
+top-same a b c d a′ b′ c′ d′ plain ea eb ec ed h = omega arith
+top-same a b c d a′ b′ c′ d′ leftRight ea eb ec ed h = omega arith
+top-same a b c d a′ b′ c′ d′ topBottom ea eb ec ed h = omega arith
+top-same a b c d a′ b′ c′ d′ both ea eb ec ed h = omega arith
+
+module _ {a b c d ca cb cc′ cd : List ℕ} (t : Tables a b c d ca cb cc′ cd) where
+  pub table-b : Table (standing (length a) (length c)) (pinsOf a b c d) south cb
+  table-b = subst (λ (n : ℕ). Counted b n cb) (t .sides .long) (t .souths) .is
+
+  pub table-d : Table (standing (length a) (length c)) (pinsOf a b c d) east cd
+  table-d = subst (λ (n : ℕ). Counted d n cd) (t .sides .wide) (t .easts) .is
+
+  pub chosen : (μ : Mirror) → Top (nets (cornerAt ca cd cb cc′)) (nets (cornerAt ca cc′ cb cd)) (nets (cornerAt cb cd ca cc′)) (nets (cornerAt cb cc′ ca cd)) μ
+      → Chosen a b c d μ
+  chosen μ h =
+      let g = standing (length a) (length c) in
+      let p = pinsOf a b c d in
+      let n = t .norths .is in
+      let w = t .wests .is in
+      top-same _ _ _ _ _ _ _ _ μ
+      (corner-count g p north east ca cd cb cc′ n table-d table-b w) (corner-count g p north west ca cc′ cb cd n w table-b table-d)
+      (corner-count g p south east cb cd ca cc′ table-b table-d n w) (corner-count g p south west cb cc′ ca cd table-b w n table-d) h

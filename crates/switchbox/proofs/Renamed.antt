@@ -1,0 +1,143 @@
+-- A box with n ≥ w whose sides are renamed as the chosen mirror image has them is canonical, and when it is laid, the wiring is legal for the box as it was.
+use Prim.Native.Nat.{ℕ, zero, suc, _*_, _≤_}
+use mathlib.Core.Path.{_≡_, refl, sym, ap, subst, subst₂, _∙_, fun-ext}
+use mathlib.Core.Logic.{_≢_}
+use mathlib.Core.List.{List}
+use mathlib.Core.Bool.{Bool}
+use native.Mathlib.Omega.{arith}
+use native.Mathlib.Decide.{decLe}
+use lib.ListN.{length}
+use Rattle.counting.specs.Counting.{In, ceil}
+use Rattle.grid.specs.Grid.{Side, north, south, west, east, places}
+use Rattle.grid.specs.Legal.{Pins, entry, pinsOf}
+use Rattle.grid.proofs.Pins.{Numbered}
+use Rattle.switchbox_law.specs.Drawing.{BoxLaid, Mirror, plain, leftRight, topBottom, both}
+use Rattle.switchbox_law.proofs.Mirrors.{seen}
+use Rattle.switchbox_law.proofs.Renaming.{renamed, renamed-legal, most-renamed}
+use Rattle.lanes.specs.Tables.{Nets, Counted}
+use Rattle.switchbox.specs.Box.{mirrorOf, Sides, standing, Tables, Upright, Canonical, Chosen}
+use Rattle.switchbox.specs.Layers.{LaidAs, Wired}
+use Rattle.switchbox.proofs.Assigned.{round-up}
+
+pub last-mirror : (m : ℕ) → m ≢ 0 → m ≢ 1 → m ≢ 2 → mirrorOf m ≡ both
+last-mirror zero a b c = absurd (a refl)
+last-mirror (suc zero) a b c = absurd (b refl)
+last-mirror (suc (suc zero)) a b c = absurd (c refl)
+last-mirror (suc (suc (suc m))) a b c = refl
+
+-- four lists, side by side
+abbrev pub by : List ℕ → List ℕ → List ℕ → List ℕ → Side → List ℕ
+by a b c d north = a
+by a b c d south = b
+by a b c d west = c
+by a b c d east = d
+
+module _ (a b c d : List ℕ) where
+  pin-by : (s : Side) → pinsOf a b c d s ≡ entry (by a b c d s)
+  pin-by north = refl
+  pin-by south = refl
+  pin-by west = refl
+  pin-by east = refl
+
+  -- the pins of the renamed sides
+  pins-renamed : (μ : Mirror)
+      → pinsOf (by a b c d (seen μ north)) (by a b c d (seen μ south)) (by a b c d (seen μ west)) (by a b c d (seen μ east)) ≡ renamed μ (pinsOf a b c d)
+  pins-renamed μ = fun-ext go
+    where
+      go : (s : Side) → pinsOf (by a b c d (seen μ north)) (by a b c d (seen μ south)) (by a b c d (seen μ west)) (by a b c d (seen μ east)) s
+          ≡ pinsOf a b c d (seen μ s)
+      go north = sym (pin-by (seen μ north))
+      go south = sym (pin-by (seen μ south))
+      go west = sym (pin-by (seen μ west))
+      go east = sym (pin-by (seen μ east))
+
+module _ {a b c d : List ℕ} (sides : Sides a b c d) where
+  nets-by : (s : Side) → Nets (by a b c d s)
+  nets-by north = sides .norths
+  nets-by south = sides .souths
+  nets-by west = sides .wests
+  nets-by east = sides .easts
+
+  -- renamed sides are as long
+  long-by : (μ : Mirror) → (length (by a b c d (seen μ north)) ≡ length a) × (length (by a b c d (seen μ south)) ≡ length a)
+  long-by plain = (refl, sides .long)
+  long-by leftRight = (refl, sides .long)
+  long-by topBottom = (sides .long, refl)
+  long-by both = (sides .long, refl)
+
+  wide-by : (μ : Mirror) → (length (by a b c d (seen μ west)) ≡ length c) × (length (by a b c d (seen μ east)) ≡ length c)
+  wide-by plain = (refl, sides .wide)
+  wide-by leftRight = (sides .wide, refl)
+  wide-by topBottom = (refl, sides .wide)
+  wide-by both = (sides .wide, refl)
+
+  numbered : Numbered (standing (length a) (length c)) (pinsOf a b c d)
+  numbered s zero i = absurd (none s i)
+    where
+      none : (s : Side) → In 0 (places (standing (length a) (length c)) s) → ⊥
+      none north i = omega arith
+      none south i = omega arith
+      none west i = omega arith
+      none east i = omega arith
+  numbered north (suc i) h = sides .norths .small i (omega arith)
+  numbered south (suc i) h = sides .souths .small i (omega (arith, sides .long))
+  numbered west (suc j) h = sides .wests .small j (omega arith)
+  numbered east (suc j) h = sides .easts .small j (omega (arith, sides .wide))
+
+module _ {a b c d before : List ℕ} (up : Upright a b c d before) (μ : Mirror) where
+  pub canonical-renamed : {ca cb cc′ cd : List ℕ} → Tables a b c d ca cb cc′ cd → Chosen a b c d μ
+      → Canonical (by a b c d (seen μ north)) (by a b c d (seen μ south)) (by a b c d (seen μ west)) (by a b c d (seen μ east))
+      (by ca cb cc′ cd (seen μ north)) (by ca cb cc′ cd (seen μ south)) (by ca cb cc′ cd (seen μ west)) (by ca cb cc′ cd (seen μ east)) before
+  canonical-renamed {ca} {cb} {cc′} {cd} t h =
+      let n = long-by (up .sides) μ in
+      let w = wide-by (up .sides) μ in
+      record {
+        tables = record {
+          sides = record {
+            norths = nets-by (up .sides) (seen μ north);
+            souths = nets-by (up .sides) (seen μ south);
+            wests = nets-by (up .sides) (seen μ west);
+            easts = nets-by (up .sides) (seen μ east);
+            long = n .1 ∙ sym (n .0);
+            wide = w .1 ∙ sym (w .0);
+          };
+          norths = counted-by (seen μ north);
+          souths = counted-by (seen μ south);
+          wests = counted-by (seen μ west);
+          easts = counted-by (seen μ east);
+        };
+        narrow = rw (w .0) (up .narrow);
+        oblong = rw (n .0, w .0) (up .oblong);
+        room = rw (n .0, w .0) (up .room);
+        corner = rw (n .0, w .0, pins-renamed a b c d μ) (most-renamed (standing (length a) (length c)) (pinsOf a b c d) μ h);
+      }
+    where
+      counted-by : (s : Side) → Counted (by a b c d s) (length (by a b c d s)) (by ca cb cc′ cd s)
+      counted-by north = t .norths
+      counted-by south = t .souths
+      counted-by west = t .wests
+      counted-by east = t .easts
+
+  pub wired-renamed : {turned : Bool} {after : List ℕ}
+      → LaidAs turned (length (by a b c d (seen μ north))) (length (by a b c d (seen μ west)))
+      (by a b c d (seen μ north)) (by a b c d (seen μ south)) (by a b c d (seen μ west)) (by a b c d (seen μ east)) before after
+      → Wired turned a b c d before after
+  wired-renamed {turned} {after} l =
+      go (subst₂ (λ (x y : ℕ). LaidAs turned x y (by a b c d (seen μ north)) (by a b c d (seen μ south)) (by a b c d (seen μ west)) (by a b c d (seen μ east)) before after)
+      (long-by (up .sides) μ .0) (wide-by (up .sides) μ .0) l)
+    where
+      some-layer : 1 ≤ ceil (length a) (length c)
+      some-layer = elim (decLe 1 (ceil (length a) (length c))) [
+        | yes h ↦ h
+        | no h ↦ let z : ceil (length a) (length c) ≡ 0 = omega arith in
+            absurd (omega (arith, round-up (length a) (length c) (up .narrow), ap (λ (v : ℕ). v * length c) z, up .narrow, up .oblong))
+      ]
+
+      go : LaidAs turned (length a) (length c) (by a b c d (seen μ north)) (by a b c d (seen μ south)) (by a b c d (seen μ west)) (by a b c d (seen μ east)) before after
+          → Wired turned a b c d before after
+      go l = record {
+        wiring = l .wiring;
+        legal = renamed-legal (omega (arith, up .narrow, up .oblong)) (up .narrow) some-layer (numbered (up .sides)) μ
+            (subst (λ (p : Pins). BoxLaid (length a) (length c) (ceil (length a) (length c)) p (l .wiring) (l .tracks) (l .columns)) (pins-renamed a b c d μ) (l .laid));
+        drawn = l .drawn;
+      }

@@ -1,0 +1,34 @@
+-- Turned, a line from west to east is one of the buffer's columns; else one of its tracks.
+use Rattle.switchbox.proofs.Layers.{painted-plain, painted-turned}
+use borrow.Author.Needs.{needs}
+use Rattle.switchbox.proofs.paint_across.Statement.{statement}
+use Rattle.switchbox.proofs.paint_across.Tie as tie
+
+paint-columns-requires : tie.Need-paint-columns-requires
+paint-columns-requires c κs = search needs
+
+same-length : tie.Need-same-length
+same-length c = search needs
+
+returns : tie.Need-returns
+returns c = painted-turned _ (c .before .before .before .before .if1 .taken) (c .before .before .paint-columns .ensures)
+
+paint-tracks-requires : tie.Need-paint-tracks-requires
+paint-tracks-requires c κs = search needs
+
+same-length-2 : tie.Need-same-length-2
+same-length-2 c = search needs
+
+returns-2 : tie.Need-returns-2
+returns-2 c = painted-plain _ (c .before .before .before .before .if1 .left) (c .before .before .paint-tracks .ensures)
+
+pub paint-across-spec : {M : Type 1} → statement M
+paint-across-spec =
+    tie.close
+    (tie.spec
+    paint-columns-requires
+    same-length
+    returns
+    paint-tracks-requires
+    same-length-2
+    returns-2)
