@@ -67,7 +67,6 @@ ordered-more (u ∷ ss) s o h = (
 pub list-starts : (pin : ℕ → ℕ) (right : List ℕ) → Listed pin 0 (replicate 256 0) right []
 list-starts pin right = record {
   size = length-replicate {A = ℕ} 256 0;
-  none = blank 256 0;
   seen = λ a h. absurd (omega arith);
   from = λ b h. absurd (omega (arith, blank 256 b));
   each = λ s i. absurd (List·Memᴰ·not-nil i);
@@ -76,24 +75,22 @@ list-starts pin right = record {
 }
 
 module _ (pin : ℕ → ℕ) (q : ℕ) (left right : List ℕ) (ss : List Span) (m : ℕ) (e : m ≡ pin q) (l : Listed pin q left right ss) where
-  -- an empty place, or a net that was met before
-  pub list-skip : (m ≢ 0 → 1 ≤ getD left m 0) → Listed pin (q + 1) left right ss
+  -- a net that was met before
+  pub list-skip : 1 ≤ getD left m 0 → Listed pin (q + 1) left right ss
   list-skip met = record {
     size = l .size;
-    none = l .none;
-    seen = λ a h nz. by-cases (ℕ-discrete a q) (λ s. again a s nz) (λ ne. l .seen a (omega arith) nz);
+    seen = λ a h. by-cases (ℕ-discrete a q) (again a) (λ ne. l .seen a (omega arith));
     from = λ b h. let f = l .from b h in (f .0, omega arith, f .2, f .3);
     each = l .each;
     all = l .all;
     ordered = l .ordered;
   }
     where
-      again : (a : ℕ) → a ≡ q → pin a ≢ 0 → In (getD left (pin a) 0) (column a)
-      again a s nz = let same : m ≡ pin a = e ∙ sym (ap pin s) in let one = met (λ z. nz (sym same ∙ z)) in let f = l .from m one in
-          rw (← same) (one, omega arith)
+      again : (a : ℕ) → a ≡ q → In (getD left (pin a) 0) (column a)
+      again a s = let same : m ≡ pin a = e ∙ sym (ap pin s) in let f = l .from m met in rw (← same) (met, omega arith)
 
   -- a net that is met here first
-  module _ (nz : m ≢ 0) (fit : m < 256) (new : getD left m 0 ≡ 0) where
+  module _ (fit : m < 256) (new : getD left m 0 ≡ 0) where
     abbrev left′ : List ℕ
     left′ = set left m (column q)
 
@@ -111,7 +108,6 @@ module _ (pin : ℕ → ℕ) (q : ℕ) (left right : List ℕ) (ss : List Span) 
         (column q < getD right m 0 → List·Memᴰ (spanOf left′ right m) ss′) → Listed pin (q + 1) left′ right ss′
     list-met ss′ each ordered old now = record {
       size = length-set left m (column q) ∙ l .size;
-      none = there 0 (λ z. nz (sym z)) ∙ l .none;
       seen = seen;
       from = λ b h. by-cases (ℕ-discrete b m) (λ s. (q, omega arith, sym e ∙ sym s, ap (λ (z : ℕ). getD left′ z 0) s ∙ here))
           (λ ne. let f = l .from b (omega (arith, there b ne)) in (f .0, omega arith, f .2, there b ne ∙ f .3));
@@ -120,9 +116,9 @@ module _ (pin : ℕ → ℕ) (q : ℕ) (left right : List ℕ) (ss : List Span) 
       ordered = ordered;
     }
       where
-        seen : (a : ℕ) → a < q + 1 → pin a ≢ 0 → In (getD left′ (pin a) 0) (column a)
-        seen a h na = by-cases (ℕ-discrete a q) (λ s. let p : pin a ≡ m = ap pin s ∙ sym e in rw (p, here, s) (omega arith))
-            (λ ne. let i = l .seen a (omega arith) na in rw (there (pin a) (λ s. absurd (omega (arith, ap (λ (z : ℕ). getD left z 0) s)))) i)
+        seen : (a : ℕ) → a < q + 1 → In (getD left′ (pin a) 0) (column a)
+        seen a h = by-cases (ℕ-discrete a q) (λ s. let p : pin a ≡ m = ap pin s ∙ sym e in rw (p, here, s) (omega arith))
+            (λ ne. let i = l .seen a (omega arith) in rw (there (pin a) (λ s. absurd (omega (arith, ap (λ (z : ℕ). getD left z 0) s)))) i)
 
         all : (b : ℕ) → 1 ≤ getD left′ b 0 → getD left′ b 0 < getD right b 0 → List·Memᴰ (spanOf left′ right b) ss′
         all b one lt = by-cases (ℕ-discrete b m) (λ s. rw s (now (omega (arith, here, ap (λ (z : ℕ). getD left′ z 0) s, ap (λ (z : ℕ). getD right z 0) s))))

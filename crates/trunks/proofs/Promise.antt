@@ -51,7 +51,7 @@ module _ (north south : List ℕ) (n : ℕ) (hn : (a : ℕ) → getD north a 0 �
   few m h =
       let (e, q, p, c) = r .from m (omega arith) in
       let nz : m ≢ 0 = λ z. absurd (omega (arith, r .none, ap (λ (b : ℕ). getD right b 0) z)) in
-      let one = l .seen e q (λ z. nz (sym p ∙ z)) in
+      let one = l .seen e q in
       (omega (arith, pin-small north south hn hs e), rw p at (one .0))
 
   ready : (b : ℕ) → ((c : ℕ) → covering c ss ≤ b) → Ready freshPacking ss 1 b
@@ -76,7 +76,7 @@ module _ (north south : List ℕ) (n : ℕ) (hn : (a : ℕ) → getD north a 0 �
   pub promised : Placed north south n trunks
   promised = record {
     all = λ c m i nz p. let (q, h, e, k) = pin-of north south n c m i p in let nz′ : pinAt north south q ≢ 0 = λ z. nz (sym e ∙ z) in
-        (omega (arith, rw e at (l .seen q h nz′ .1)), omega (arith, rw e at (r .seen q h nz′)));
+        (omega (arith, rw e at (l .seen q h .1)), omega (arith, rw e at (r .seen q h nz′)));
     first = λ m h. let (q, i, e, k) = l .from m (few m h .1) in (omega arith, of-pin north south q _ m k e);
     last = λ m h. let (q, i, e, k) = r .from m (omega arith) in (omega arith, of-pin north south q _ m k e);
     few = λ m h. few m h .0;

@@ -6,7 +6,8 @@
 --   Rights pin q right           right has the rightmost column of each net, 0 where it has no pin
 --   spanOf left right m          net m's span
 --   Ordered ss                   each span is followed by spans of other nets only, none of which starts further left
---   Listed pin q left right ss   left has the leftmost column of each net, and ss lists the spans of the nets that lie in more than one column
+--   Listed pin q left right ss   left has the leftmost column of each net, and of the number 0 of empty places, and ss lists the spans of the nets
+--                                that lie in more than one column
 use Prim.Native.Nat.{ℕ, _+_, _/_, _%_, _≤_, _<_}
 use mathlib.Core.Path.{_≡_}
 use mathlib.Core.Logic.{_≢_}
@@ -38,8 +39,7 @@ Ordered (s ∷ ss) = ((t : Span) → List·Memᴰ t ss → (s .left ≤ t .left)
 
 pub record Listed (pin : ℕ → ℕ) (q : ℕ) (left right : List ℕ) (ss : List Span) : Type 0 where
   pub size : length left ≡ 256
-  pub none : getD left 0 0 ≡ 0
-  pub seen : (e : ℕ) → e < q → pin e ≢ 0 → In (getD left (pin e) 0) (column e)
+  pub seen : (e : ℕ) → e < q → In (getD left (pin e) 0) (column e)
   pub from : (m : ℕ) → 1 ≤ getD left m 0 → (e : ℕ) × (e < q) × (pin e ≡ m) × (getD left m 0 ≡ column e)
   pub each : (s : Span) → List·Memᴰ s ss → (s ≡ spanOf left right (s .net)) × (1 ≤ s .left) × (s .left < s .right)
   pub all : (m : ℕ) → 1 ≤ getD left m 0 → getD left m 0 < getD right m 0 → List·Memᴰ (spanOf left right m) ss

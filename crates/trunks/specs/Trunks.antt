@@ -1,5 +1,6 @@
 -- What the trunk places promise to whoever draws them.
 --
+--   leftOf, rightOf, placeOf net m's leftmost and rightmost column, 0 where it has no pin, and its trunk place
 --   PinIn north south c m    net m has a pin in column c
 --   Crosses t m c            net m lies in more than one column, and its span, leftmost to rightmost column, contains c
 --   crossing t c             how many nets do

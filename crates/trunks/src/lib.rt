@@ -59,7 +59,8 @@ pub struct Listing {
     pub count: usize,
 }
 
-// A net's first pin, column by column, is its leftmost; so the spans are listed by leftmost column as they are met.
+// A net's first pin, column by column, is its leftmost; so the spans are listed by leftmost column as they are met. The number 0 of empty
+// places has no rightmost column, and so no span.
 fn list_spans(north: &[u8; 90], south: &[u8; 90], n: usize, right: &[u8; 256]) -> Listing
     requires { ⌜ n ≤ 90 ⌝ }
     ensures { λ r. ⌜ (r .count ≤ 180) × Listed (pinAt (now (north .entry)) (now (south .entry))) (2 * n) (r .left) (now (right .entry)) (take (r .count) (r .spans)) ⌝ }
@@ -77,18 +78,16 @@ fn list_spans(north: &[u8; 90], south: &[u8; 90], n: usize, right: &[u8; 256]) -
         let net = wide(pin_at(north, south, q));
         let column = q / 2 + 1;
         q += 1;
-        if net != 0 {
-            if left[net] == 0 {
-                left[net] = column as u8;
-                let last = right[net];
-                if column < wide(last) {
-                    spans[count] = Span {
-                        net: net as u8,
-                        left: column as u8,
-                        right: last,
-                    };
-                    count += 1;
-                }
+        if left[net] == 0 {
+            left[net] = column as u8;
+            let last = right[net];
+            if column < wide(last) {
+                spans[count] = Span {
+                    net: net as u8,
+                    left: column as u8,
+                    right: last,
+                };
+                count += 1;
             }
         }
     }

@@ -10,8 +10,8 @@ use Rattle.trunks.proofs.list_spans.Statement.{statement}
 use Rattle.trunks.proofs.list_spans.Tie as tie
 
 abbrev Inv-loop : tie.InvT-loop
-Inv-loop north south n right left₀ spans₀ count₀ pins q₀ left spans count q = (pins ≡ 2 * n) × (q ≤ pins) × (count ≤ q) ×
-    (length spans ≡ 180) × Listed (pinAt north south) q left right (take count spans)
+Inv-loop north south n right left₀ spans₀ count₀ pins q₀ left spans count q = (pins ≡ 2 * n) × (q ≤ pins) × (count ≤ q) × (length spans ≡ 180)
+    × Listed (pinAt north south) q left right (take count spans)
 
 abbrev μ-loop : tie.MeasureT-loop
 μ-loop north south n right left₀ spans₀ count₀ pins q₀ left spans count q = pins - q
@@ -34,8 +34,8 @@ add-column c = search needs
 add-q : tie.Need-add-q Inv-loop μ-loop
 add-q c = search needs
 
-array-read-if2 : tie.Need-array-read-if2 Inv-loop μ-loop
-array-read-if2 c = search needs
+array-read-if1 : tie.Need-array-read-if1 Inv-loop μ-loop
+array-read-if1 c = search needs
 
 cast-left : tie.Need-cast-left Inv-loop μ-loop
 cast-left c = search needs
@@ -49,11 +49,11 @@ element-copy-out-last c = search needs
 wide-requires-2 : tie.Need-wide-requires-2 Inv-loop μ-loop
 wide-requires-2 c κs = search needs
 
-cast-t28 : tie.Need-cast-t28 Inv-loop μ-loop
-cast-t28 c = search needs
+cast-t26 : tie.Need-cast-t26 Inv-loop μ-loop
+cast-t26 c = search needs
 
-cast-t29 : tie.Need-cast-t29 Inv-loop μ-loop
-cast-t29 c = search needs
+cast-t27 : tie.Need-cast-t27 Inv-loop μ-loop
+cast-t27 c = search needs
 
 mul-spans : tie.Need-mul-spans Inv-loop μ-loop
 mul-spans c = search needs
@@ -72,14 +72,13 @@ loop-again c =
     let c3 = c .before .before .before in
     let c4 = c3 .before in
     let c5 = c4 .before in
-    let c6 = c5 .before in
-    let c8 = c6 .before .before in (
+    let c7 = c5 .before .before in (
       search needs,
       search needs,
       search needs,
-      simp length-set (c8 .loop .inv .3),
-      stored _ _ _ (c8 .loop .inv .3) (array-set-from-spans c)
-          (list-more _ _ _ _ _ _ (c5 .wide .ensures ∙ c6 .pin-at .ensures) (c8 .loop .inv .4) (c4 .if1 .taken) (array-read-if2 c4) (c3 .if2 .taken)
+      simp length-set (c7 .loop .inv .3),
+      stored _ _ _ (c7 .loop .inv .3) (array-set-from-spans c)
+          (list-more _ _ _ _ _ _ (c4 .wide .ensures ∙ c5 .pin-at .ensures) (c7 .loop .inv .4) (array-read-if1 c4) (c3 .if1 .taken)
           (omega (arith, c .before .wide2 .ensures))),
     )
 
@@ -91,14 +90,13 @@ loop-again-2 c =
     let c3 = c .before .before .before in
     let c4 = c3 .before in
     let c5 = c4 .before in
-    let c6 = c5 .before in
-    let c8 = c6 .before .before in (
+    let c7 = c5 .before .before in (
       search needs,
       search needs,
       search needs,
-      c8 .loop .inv .3,
-      list-mark _ _ _ _ _ _ (c5 .wide .ensures ∙ c6 .pin-at .ensures) (c8 .loop .inv .4)
-          (c4 .if1 .taken) (array-read-if2 c4) (c3 .if2 .taken) (omega (arith, c .before .wide2 .ensures)),
+      c7 .loop .inv .3,
+      list-mark _ _ _ _ _ _ (c4 .wide .ensures ∙ c5 .pin-at .ensures) (c7 .loop .inv .4)
+          (array-read-if1 c4) (c3 .if1 .taken) (omega (arith, c .before .wide2 .ensures)),
     )
 
 loop-less-3 : tie.Need-loop-less-3 Inv-loop μ-loop
@@ -107,29 +105,13 @@ loop-less-3 c = search needs
 loop-again-3 : tie.Need-loop-again-3 Inv-loop μ-loop
 loop-again-3 c =
     let c2 = c .before .before in
-    let c3 = c2 .before in
-    let c5 = c3 .before .before in (
-      search needs,
-      search needs,
-      search needs,
-      c5 .loop .inv .3,
-      list-skip _ _ _ _ _ _ (c2 .wide .ensures ∙ c3 .pin-at .ensures) (c5 .loop .inv .4)
-          (λ nz. omega (arith, c .if2 .left)),
-    )
-
-loop-less-4 : tie.Need-loop-less-4 Inv-loop μ-loop
-loop-less-4 c = search needs
-
-loop-again-4 : tie.Need-loop-again-4 Inv-loop μ-loop
-loop-again-4 c =
-    let c2 = c .before .before in
     let c4 = c2 .before .before in (
       search needs,
       search needs,
       search needs,
       c4 .loop .inv .3,
       list-skip _ _ _ _ _ _ (c .before .wide .ensures ∙ c2 .pin-at .ensures)
-          (c4 .loop .inv .4) (λ nz. absurd (nz (c .if1 .left))),
+          (c4 .loop .inv .4) (omega (arith, c .if1 .left)),
     )
 
 returns : tie.Need-returns Inv-loop μ-loop
@@ -147,13 +129,13 @@ list-spans-spec =
     wide-requires
     add-column
     add-q
-    array-read-if2
+    array-read-if1
     cast-left
     array-write-left
     element-copy-out-last
     wide-requires-2
-    cast-t28
-    cast-t29
+    cast-t26
+    cast-t27
     mul-spans
     array-set-from-spans
     add-count
@@ -163,6 +145,4 @@ list-spans-spec =
     loop-again-2
     loop-less-3
     loop-again-3
-    loop-less-4
-    loop-again-4
     returns)
