@@ -251,15 +251,71 @@ fn check_record(c: &Case) -> Vec<u8> {
     out
 }
 
+/// Tickets to lay, each with the length of the buffer: exact, one byte short, longer, none.
+fn lay_cases() -> Vec<(Vec<u8>, usize)> {
+    let r = &mut Numbers::new(17);
+    let mut tickets = document();
+    for (kind, n, byte2) in [(1, 1, 1), (1, 90, 1), (1, 90, 8), (2, 1, 8), (2, 90, 1), (2, 90, 8)] {
+        tickets.extend([0, 4, 10].map(|tenths| of_shape(r, kind, n, byte2, tenths)));
+    }
+    for (n, w) in [(1, 1), (1, 90), (90, 1), (89, 90), (90, 90), (90, 89), (40, 12), (12, 40), (7, 3), (3, 7)] {
+        tickets.extend([0, 3, 8, 10].map(|tenths| of_shape(r, 3, n, w, tenths)));
+    }
+    for (a, b) in [(NORTH, EAST), (NORTH, WEST), (SOUTH, EAST), (SOUTH, WEST)] {
+        for (n, w) in [(9, 9), (13, 5), (5, 13), (30, 30)] {
+            tickets.push(tickets::corner(r, n, w, a, b));
+        }
+    }
+    for _ in 0..150 {
+        let t = tickets::random(r);
+        tickets.push(if r.below(8) == 0 { damaged(r, &t) } else { t });
+    }
+    let mut out = Vec::new();
+    for t in tickets {
+        let size = read::read(&t).map_or(0, |t| t.n * survey::figures(&t).w * survey::figures(&t).layers);
+        for length in [size, size.saturating_sub(1), size + 1 + r.below(9), r.below(size + 1)] {
+            if size > 0 || length == 0 {
+                out.push((t.clone(), length));
+            }
+        }
+    }
+    out
+}
+
+fn lay_record((t, length): &(Vec<u8>, usize)) -> Vec<u8> {
+    let mut out = record(t);
+    out.extend(&(*length as u32).to_le_bytes()[..3]);
+    out
+}
+
+/// number, place, kind, n, w, k, first, nets, across, up, floor; then Check's number and place of the wiring, and whether the bytes outside it were kept.
+fn lay_row((t, length): &(Vec<u8>, usize)) -> String {
+    let refused = |number: u64, place: usize| row(&[number, place as u64, 0, 0, 0, 0, 0, 0, 0, 0, 0, 0, 0, 1]);
+    match read::read(t) {
+        Err(slow::Refusal(number, place)) => refused(number as u64, place),
+        Ok(ticket) => {
+            let f = survey::figures(&ticket);
+            let size = ticket.n * f.w * f.layers;
+            if *length < size {
+                return refused(10, size);
+            }
+            let first = ticket.kind == 3 && ticket.n < f.w;
+            let fields = [0, 0, ticket.kind as usize, ticket.n, f.w, f.layers, first as usize, f.nets, f.across, f.up, f.floor, 0, 0, 1];
+            row(&fields.map(|x| x as u64))
+        }
+    }
+}
+
 /// What each program reads and must print.
 fn vectors() -> Vec<(&'static str, Vec<u8>, String)> {
-    let (reads, surveys, checks) = (read_tickets(), survey_tickets(), check_cases());
+    let (reads, surveys, checks, lays) = (read_tickets(), survey_tickets(), check_cases(), lay_cases());
     let records = |list: &[Vec<u8>]| list.iter().flat_map(|t| record(t)).collect();
     let verdict = |c: &Case| row(&judge::answer(&c.ticket, c.w, c.k, c.first, &c.wiring, c.scratch));
     vec![
         ("read_vectors", records(&reads), reads.iter().map(|t| row(&read::answer(t))).collect()),
         ("survey_vectors", records(&surveys), surveys.iter().map(|t| survey::line(t)).collect()),
         ("check_vectors", checks.iter().flat_map(check_record).collect(), checks.iter().map(verdict).collect()),
+        ("lay_vectors", lays.iter().flat_map(lay_record).collect(), lays.iter().map(lay_row).collect()),
     ]
 }
 
