@@ -110,7 +110,8 @@ fn who_needs(a: &[u8; 181], b: &[u8; 181], c: &[u8; 181], d: &[u8; 181], first: 
     out
 }
 
-// Each net that needs a lane and has a fixed one takes it.
+// Each net that needs a lane and has a fixed one takes it. Here and in first_free, `top` is for the contract alone: the lanes
+// suffice, so that no run past them is tested for.
 fn place_fixed(need: &[bool; 181], fixed: &[u8; 181], top: usize) -> [u8; 180]
     requires { ⌜ Request (now need) (now fixed) top ⌝ }
     ensures { λ r. ⌜ Placed (now (fixed .entry)) top (firstPass (now (need .entry)) (now (fixed .entry)) 180) r ⌝ }

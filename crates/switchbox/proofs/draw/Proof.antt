@@ -26,23 +26,40 @@ add-paint-across : tie.Need-add-paint-across
 add-paint-across c = search needs
 
 paint-across-requires : tie.Need-paint-across-requires
-paint-across-requires c κs = rw (c .before .before .before .before .before .before .before .before .before .before .before .before .before .before .before .before .pre .across) (omega (arith, layer-fits (c .before .before .before .before .before .before .before .before .before .before .before .before .before .before .before .before .pre) 1 (omega arith), c .before .before .before .paint-up .kept .0, drawn-as-long (c .before .before .before .before .before .before .before .track-layers .ensures)))
+paint-across-requires c κs =
+    let at-paint-up = c .before .before .before in
+    let at-track-layers = at-paint-up .before .before .before .before in
+    let start = at-track-layers .before .before .before .before .before .before .before .before .before in
+    rw (start .pre .across) (omega (arith, layer-fits (start .pre) 1 (omega arith), at-paint-up .paint-up .kept .0, drawn-as-long (at-track-layers .track-layers .ensures)))
 
 mul-paint-up : tie.Need-mul-paint-up
-mul-paint-up c = omega (arith, layer-small (c .before .before .before .before .before .before .before .before .before .before .before .before .before .before .before .before .before .before .before .before .pre))
+mul-paint-up c =
+    let start = c .before .before .before .before .before .before .before .before .before .before .before .before .before .before .before .before .before .before .before .before in
+    omega (arith, layer-small (start .pre))
 
 add-paint-up : tie.Need-add-paint-up
-add-paint-up c = omega (arith, layer-small (c .before .before .before .before .before .before .before .before .before .before .before .before .before .before .before .before .before .before .before .before .pre))
+add-paint-up c =
+    let start = c .before .before .before .before .before .before .before .before .before .before .before .before .before .before .before .before .before .before .before .before in
+    omega (arith, layer-small (start .pre))
 
 paint-up-requires-2 : tie.Need-paint-up-requires-2
-paint-up-requires-2 c κs = rw (c .before .before .before .before .before .before .before .before .before .before .before .before .before .before .before .before .before .before .before .before .pre .posts)
-    (omega (arith, layer-fits (c .before .before .before .before .before .before .before .before .before .before .before .before .before .before .before .before .before .before .before .before .pre) 2 (omega arith), c .before .before .before .paint-across .kept .0, c .before .before .before .before .before .before .before .paint-up .kept .0, drawn-as-long (c .before .before .before .before .before .before .before .before .before .before .before .track-layers .ensures)))
+paint-up-requires-2 c κs =
+    let at-paint-across = c .before .before .before in
+    let at-paint-up = at-paint-across .before .before .before .before in
+    let at-track-layers = at-paint-up .before .before .before .before in
+    let start = at-track-layers .before .before .before .before .before .before .before .before .before in
+    rw (start .pre .posts)
+    (omega (arith, layer-fits (start .pre) 2 (omega arith), at-paint-across .paint-across .kept .0, at-paint-up .paint-up .kept .0, drawn-as-long (at-track-layers .track-layers .ensures)))
 
 mul-paint-across : tie.Need-mul-paint-across
-mul-paint-across c = omega (arith, layer-small (c .before .before .before .before .before .before .before .before .before .before .before .before .before .before .before .before .before .before .before .before .before .before .before .before .pre))
+mul-paint-across c =
+    let start = c .before .before .before .before .before .before .before .before .before .before .before .before .before .before .before .before .before .before .before .before .before .before .before .before in
+    omega (arith, layer-small (start .pre))
 
 add-paint-across-2 : tie.Need-add-paint-across-2
-add-paint-across-2 c = omega (arith, layer-small (c .before .before .before .before .before .before .before .before .before .before .before .before .before .before .before .before .before .before .before .before .before .before .before .before .pre))
+add-paint-across-2 c =
+    let start = c .before .before .before .before .before .before .before .before .before .before .before .before .before .before .before .before .before .before .before .before .before .before .before .before in
+    omega (arith, layer-small (start .pre))
 
 paint-across-requires-2 : tie.Need-paint-across-requires-2
 paint-across-requires-2 c κs = search needs
@@ -52,7 +69,13 @@ same-length c = search needs
 
 returns : tie.Need-returns
 returns c =
-    box-drawn (c .before .before .before .before .before .before .before .before .before .before .before .before .before .before .before .before .before .before .before .before .before .before .before .before .before .before .before .pre) refl (c .before .before .before .before .before .before .before .before .before .before .before .before .before .before .before .before .before .before .track-layers .ensures) (c .before .before .before .before .before .before .before .before .before .before .before .before .before .before .paint-up .ensures) (c .before .before .before .before .before .before .before .before .before .before .paint-across .ensures) (c .before .before .before .before .before .before .paint-up2 .ensures) (c .before .before .paint-across2 .ensures)
+    let at-paint-across2 = c .before .before in
+    let at-paint-up2 = at-paint-across2 .before .before .before .before in
+    let at-paint-across = at-paint-up2 .before .before .before .before in
+    let at-paint-up = at-paint-across .before .before .before .before in
+    let at-track-layers = at-paint-up .before .before .before .before in
+    let start = at-track-layers .before .before .before .before .before .before .before .before .before in
+    box-drawn (start .pre) refl (at-track-layers .track-layers .ensures) (at-paint-up .paint-up .ensures) (at-paint-across .paint-across .ensures) (at-paint-up2 .paint-up2 .ensures) (at-paint-across2 .paint-across2 .ensures)
 
 pub draw-spec : {M : Type 1} → statement M
 draw-spec =

@@ -19,32 +19,50 @@ div-q c = search needs
 
 mul-top : tie.Need-mul-top
 unfolding ceil
-mul-top c = omega (arith, tracks-asked (c .before .before .before .before .before .pre) .most)
+mul-top c =
+    let start = c .before .before .before .before .before in
+    omega (arith, tracks-asked (start .pre) .most)
 
 lanes-requires : tie.Need-lanes-requires
 unfolding ceil
-lanes-requires c κs = tracks-asked (c .before .before .before .before .before .pre)
+lanes-requires c κs =
+    let start = c .before .before .before .before .before in
+    tracks-asked (start .pre)
 
 lanes-requires-2 : tie.Need-lanes-requires-2
-lanes-requires-2 c κs = columns-asked (c .before .before .before .before .before .before .pre)
+lanes-requires-2 c κs =
+    let start = c .before .before .before .before .before .before in
+    columns-asked (start .pre)
 
 array-share-prefix-tracks : tie.Need-array-share-prefix-tracks
 unfolding ceil
-array-share-prefix-tracks c = omega (arith, tracks-asked (c .before .before .before .before .before .before .before .pre) .most, c .before .lanes .ok)
+array-share-prefix-tracks c =
+    let start = c .before .before .before .before .before .before .before in
+    omega (arith, tracks-asked (start .pre) .most, c .before .lanes .ok)
 
 slice-aggregate-draw : tie.Need-slice-aggregate-draw
 unfolding ceil
-slice-aggregate-draw c = sym (length-take-le _ _ (omega (arith, tracks-asked (c .before .before .before .before .before .before .before .before .pre) .most, c .before .before .lanes .ok)))
+slice-aggregate-draw c =
+    let at-lanes = c .before .before in
+    let start = at-lanes .before .before .before .before .before .before in
+    sym (length-take-le _ _ (omega (arith, tracks-asked (start .pre) .most, at-lanes .lanes .ok)))
 
 array-share-prefix-columns : tie.Need-array-share-prefix-columns
 array-share-prefix-columns c = search needs
 
 slice-aggregate-draw-2 : tie.Need-slice-aggregate-draw-2
-slice-aggregate-draw-2 c = sym (length-take-le _ _ (omega (arith, columns-asked (c .before .before .before .before .before .before .before .before .before .pre) .most, c .before .before .lanes2 .ok)))
+slice-aggregate-draw-2 c =
+    let at-lanes2 = c .before .before in
+    let start = at-lanes2 .before .before .before .before .before .before .before in
+    sym (length-take-le _ _ (omega (arith, columns-asked (start .pre) .most, at-lanes2 .lanes2 .ok)))
 
 draw-requires : tie.Need-draw-requires
 unfolding ceil
-draw-requires c κs = drawable (c .before .before .before .before .before .before .before .before .before .before .pre) (c .before .before .before .before .lanes .result) (c .before .before .before .lanes2 .result) (omega (arith, c .before .before .before .before .lanes .ok)) (omega (arith, c .before .before .before .lanes2 .ok))
+draw-requires c κs =
+    let at-lanes2 = c .before .before .before in
+    let at-lanes = at-lanes2 .before in
+    let start = at-lanes .before .before .before .before .before .before in
+    drawable (start .pre) (at-lanes .lanes .result) (at-lanes2 .lanes2 .result) (omega (arith, at-lanes .lanes .ok)) (omega (arith, at-lanes2 .lanes2 .ok))
 
 same-length : tie.Need-same-length
 same-length c = search needs
@@ -52,12 +70,16 @@ same-length c = search needs
 returns : tie.Need-returns
 unfolding ceil
 returns c =
+    let at-draw = c .before .before in
+    let at-lanes2 = at-draw .before .before .before .before in
+    let at-lanes = at-lanes2 .before in
+    let start = at-lanes .before .before .before .before .before .before in
     record {
       tracks = _;
       columns = _;
       wiring = _;
-      laid = box-laid (c .before .before .before .before .before .before .before .before .before .before .before .before .before .pre) (c .before .before .before .before .before .before .before .lanes .result) (c .before .before .before .before .before .before .lanes2 .result) (c .before .before .before .before .before .before .before .lanes .ensures) (c .before .before .before .before .before .before .lanes2 .ensures);
-      drawn = c .before .before .draw .ensures;
+      laid = box-laid (start .pre) (at-lanes .lanes .result) (at-lanes2 .lanes2 .result) (at-lanes .lanes .ensures) (at-lanes2 .lanes2 .ensures);
+      drawn = at-draw .draw .ensures;
     }
 
 pub lay-canonical-spec : {M : Type 1} → statement M

@@ -23,55 +23,92 @@ count-side-requires-4 c κs = search needs
 mirror-by-requires : tie.Need-mirror-by-requires
 mirror-by-requires c κs = search needs
 
-tables : (c : tie.After-mirror-by) → Tables (c .before .before .before .before .before .before .before .before .before .before .before .before .before .before .args .a .now) (c .before .before .before .before .before .before .before .before .before .before .before .before .before .before .args .b .now) (c .before .before .before .before .before .before .before .before .before .before .before .before .before .before .args .c .now) (c .before .before .before .before .before .before .before .before .before .before .before .before .before .before .args .d .now)
+abbrev entered : tie.After-mirror-by → tie.Start
+entered c = c .before .before .before .before .before .before .before .before .before .before .before .before .before .before
+
+tables : (c : tie.After-mirror-by) → Tables (entered c .args .a .now) (entered c .args .b .now) (entered c .args .c .now) (entered c .args .d .now)
     (c .before .before .before .before .before .before .before .before .count-side .result) (c .before .before .before .before .before .before .before .count-side2 .result) (c .before .before .before .before .before .before .count-side3 .result) (c .before .before .before .before .before .count-side4 .result)
-tables c = record {
-  sides = c .before .before .before .before .before .before .before .before .before .before .before .before .before .before .pre .sides;
-  norths = c .before .before .before .before .before .before .before .before .count-side .ensures;
-  souths = c .before .before .before .before .before .before .before .count-side2 .ensures;
-  wests = c .before .before .before .before .before .before .count-side3 .ensures;
-  easts = c .before .before .before .before .before .count-side4 .ensures;
-}
+tables c =
+    let at-count-side4 = c .before .before .before .before .before in
+    let at-count-side3 = at-count-side4 .before in
+    let at-count-side2 = at-count-side3 .before in
+    let at-count-side = at-count-side2 .before in
+    record {
+      sides = entered c .pre .sides;
+      norths = at-count-side .count-side .ensures;
+      souths = at-count-side2 .count-side2 .ensures;
+      wests = at-count-side3 .count-side3 .ensures;
+      easts = at-count-side4 .count-side4 .ensures;
+    }
 
 choice : (c : tie.After-mirror-by) (μ : Mirror) → mirrorOf (c .mirror-by .result) ≡ μ
-    → Chosen (c .before .before .before .before .before .before .before .before .before .before .before .before .before .before .args .a .now) (c .before .before .before .before .before .before .before .before .before .before .before .before .before .before .args .b .now) (c .before .before .before .before .before .before .before .before .before .before .before .before .before .before .args .c .now) (c .before .before .before .before .before .before .before .before .before .before .before .before .before .before .args .d .now) μ
-choice c μ e = subst (Chosen _ _ _ _) e (chosen (tables c) (mirrorOf (c .mirror-by .result)) (c .mirror-by .ensures))
+    → Chosen (entered c .args .a .now) (entered c .args .b .now) (entered c .args .c .now) (entered c .args .d .now) μ
+choice c μ e =
+    subst (Chosen _ _ _ _) e (chosen (tables c) (mirrorOf (c .mirror-by .result)) (c .mirror-by .ensures))
 
 lay-canonical-requires : tie.Need-lay-canonical-requires
-lay-canonical-requires c κs = canonical-renamed (c .before .before .before .before .before .before .before .before .before .before .before .before .before .before .before .before .before .before .before .before .pre) plain (tables (c .before .before .before .before .before .before)) (choice (c .before .before .before .before .before .before) plain (ap mirrorOf (c .before .before .before .before .before .if1 .taken)))
+lay-canonical-requires c κs =
+    let at-if1 = c .before .before .before .before .before in
+    let at-choice = at-if1 .before in
+    canonical-renamed (entered at-choice .pre) plain (tables at-choice) (choice at-choice plain (ap mirrorOf (at-if1 .if1 .taken)))
 
 same-length : tie.Need-same-length
 same-length c = search needs
 
 returns : tie.Need-returns
-returns c = wired-renamed (c .before .before .before .before .before .before .before .before .before .before .before .before .before .before .before .before .before .before .before .before .before .before .before .pre) plain (c .before .before .lay-canonical .ensures)
+returns c =
+    let at-lay-canonical = c .before .before in
+    let start = at-lay-canonical .before .before .before .before .before .before .before .before .before .before .before .before .before .before .before .before .before .before .before .before .before in
+    wired-renamed (start .pre) plain (at-lay-canonical .lay-canonical .ensures)
 
 lay-canonical-requires-2 : tie.Need-lay-canonical-requires-2
-lay-canonical-requires-2 c κs = canonical-renamed (c .before .before .before .before .before .before .before .before .before .before .before .before .before .before .before .before .before .before .before .before .before .pre) leftRight (tables (c .before .before .before .before .before .before .before)) (choice (c .before .before .before .before .before .before .before) leftRight (ap mirrorOf (c .before .before .before .before .before .if2 .taken)))
+lay-canonical-requires-2 c κs =
+    let at-if2 = c .before .before .before .before .before in
+    let at-if1 = at-if2 .before in
+    let at-choice = at-if1 .before in
+    canonical-renamed (entered at-choice .pre) leftRight (tables at-choice) (choice at-choice leftRight (ap mirrorOf (at-if2 .if2 .taken)))
 
 same-length-2 : tie.Need-same-length-2
 same-length-2 c = search needs
 
 returns-2 : tie.Need-returns-2
-returns-2 c = wired-renamed (c .before .before .before .before .before .before .before .before .before .before .before .before .before .before .before .before .before .before .before .before .before .before .before .before .pre) leftRight (c .before .before .lay-canonical2 .ensures)
+returns-2 c =
+    let at-lay-canonical2 = c .before .before in
+    let start = at-lay-canonical2 .before .before .before .before .before .before .before .before .before .before .before .before .before .before .before .before .before .before .before .before .before .before in
+    wired-renamed (start .pre) leftRight (at-lay-canonical2 .lay-canonical2 .ensures)
 
 lay-canonical-requires-3 : tie.Need-lay-canonical-requires-3
-lay-canonical-requires-3 c κs = canonical-renamed (c .before .before .before .before .before .before .before .before .before .before .before .before .before .before .before .before .before .before .before .before .before .before .pre) topBottom (tables (c .before .before .before .before .before .before .before .before)) (choice (c .before .before .before .before .before .before .before .before) topBottom (ap mirrorOf (c .before .before .before .before .before .if3 .taken)))
+lay-canonical-requires-3 c κs =
+    let at-if3 = c .before .before .before .before .before in
+    let at-if1 = at-if3 .before .before in
+    let at-choice = at-if1 .before in
+    canonical-renamed (entered at-choice .pre) topBottom (tables at-choice) (choice at-choice topBottom (ap mirrorOf (at-if3 .if3 .taken)))
 
 same-length-3 : tie.Need-same-length-3
 same-length-3 c = search needs
 
 returns-3 : tie.Need-returns-3
-returns-3 c = wired-renamed (c .before .before .before .before .before .before .before .before .before .before .before .before .before .before .before .before .before .before .before .before .before .before .before .before .before .pre) topBottom (c .before .before .lay-canonical3 .ensures)
+returns-3 c =
+    let at-lay-canonical3 = c .before .before in
+    let start = at-lay-canonical3 .before .before .before .before .before .before .before .before .before .before .before .before .before .before .before .before .before .before .before .before .before .before .before in
+    wired-renamed (start .pre) topBottom (at-lay-canonical3 .lay-canonical3 .ensures)
 
 lay-canonical-requires-4 : tie.Need-lay-canonical-requires-4
-lay-canonical-requires-4 c κs = canonical-renamed (c .before .before .before .before .before .before .before .before .before .before .before .before .before .before .before .before .before .before .before .before .before .before .pre) both (tables (c .before .before .before .before .before .before .before .before)) (choice (c .before .before .before .before .before .before .before .before) both (last-mirror _ (c .before .before .before .before .before .before .before .if1 .left) (c .before .before .before .before .before .before .if2 .left) (c .before .before .before .before .before .if3 .left)))
+lay-canonical-requires-4 c κs =
+    let at-if3 = c .before .before .before .before .before in
+    let at-if2 = at-if3 .before in
+    let at-if1 = at-if2 .before in
+    let at-choice = at-if1 .before in
+    canonical-renamed (entered at-choice .pre) both (tables at-choice) (choice at-choice both (last-mirror _ (at-if1 .if1 .left) (at-if2 .if2 .left) (at-if3 .if3 .left)))
 
 same-length-4 : tie.Need-same-length-4
 same-length-4 c = search needs
 
 returns-4 : tie.Need-returns-4
-returns-4 c = wired-renamed (c .before .before .before .before .before .before .before .before .before .before .before .before .before .before .before .before .before .before .before .before .before .before .before .before .before .pre) both (c .before .before .lay-canonical4 .ensures)
+returns-4 c =
+    let at-lay-canonical4 = c .before .before in
+    let start = at-lay-canonical4 .before .before .before .before .before .before .before .before .before .before .before .before .before .before .before .before .before .before .before .before .before .before .before in
+    wired-renamed (start .pre) both (at-lay-canonical4 .lay-canonical4 .ensures)
 
 pub lay-upright-spec : {M : Type 1} → statement M
 lay-upright-spec =

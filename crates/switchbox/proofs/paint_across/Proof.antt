@@ -11,7 +11,10 @@ same-length : tie.Need-same-length
 same-length c = search needs
 
 returns : tie.Need-returns
-returns c = painted-turned _ (c .before .before .before .before .if1 .taken) (c .before .before .paint-columns .ensures)
+returns c =
+    let at-paint-columns = c .before .before in
+    let at-if1 = at-paint-columns .before .before in
+    painted-turned _ (at-if1 .if1 .taken) (at-paint-columns .paint-columns .ensures)
 
 paint-tracks-requires : tie.Need-paint-tracks-requires
 paint-tracks-requires c κs = search needs
@@ -20,7 +23,10 @@ same-length-2 : tie.Need-same-length-2
 same-length-2 c = search needs
 
 returns-2 : tie.Need-returns-2
-returns-2 c = painted-plain _ (c .before .before .before .before .if1 .left) (c .before .before .paint-tracks .ensures)
+returns-2 c =
+    let at-paint-tracks = c .before .before in
+    let at-if1 = at-paint-tracks .before .before in
+    painted-plain _ (at-if1 .if1 .left) (at-paint-tracks .paint-tracks .ensures)
 
 pub paint-across-spec : {M : Type 1} → statement M
 paint-across-spec =

@@ -10,16 +10,25 @@ same-length : tie.Need-same-length
 same-length c = search needs
 
 returns : tie.Need-returns
-returns c = rw (c .before .before .before .before .if1 .taken) (c .before .before .paint-up .ensures)
+returns c =
+    let at-paint-up = c .before .before in
+    let at-if1 = at-paint-up .before .before in
+    rw (at-if1 .if1 .taken) (at-paint-up .paint-up .ensures)
 
 paint-up-requires-2 : tie.Need-paint-up-requires-2
-paint-up-requires-2 c κs = rw (c .before .before .before .before .before .pre .0) (c .before .before .before .before .before .pre .1)
+paint-up-requires-2 c κs =
+    let start = c .before .before .before .before .before in
+    rw (start .pre .0) (start .pre .1)
 
 same-length-2 : tie.Need-same-length-2
 same-length-2 c = search needs
 
 returns-2 : tie.Need-returns-2
-returns-2 c = rw (c .before .before .before .before .if1 .left, ← c .before .before .before .before .before .before .before .before .pre .0) (c .before .before .paint-up2 .ensures)
+returns-2 c =
+    let at-paint-up2 = c .before .before in
+    let at-if1 = at-paint-up2 .before .before in
+    let start = at-if1 .before .before .before .before in
+    rw (at-if1 .if1 .left, ← start .pre .0) (at-paint-up2 .paint-up2 .ensures)
 
 pub paint-comb-spec : {M : Type 1} → statement M
 paint-comb-spec =
