@@ -16,8 +16,8 @@ use Rattle.counting.specs.Counting.{In, bit}
 use Rattle.counting.proofs.Sums.{split, sum-grows}
 use Rattle.grid.specs.Grid.{Grid, Side, north, south, west, east, places, upright}
 use Rattle.grid.specs.Legal.{Pins as GridPins, topNet, row, channel, box, entry}
-use Rattle.grid.proofs.Pins.{Bare}
 use Rattle.grid.specs.View.{longestSide}
+use Rattle.grid.proofs.Pins.{Bare}
 use Rattle.ticket.proofs.Flags.{le-or-lt}
 use Rattle.ticket.proofs.Bits.{standing-one, pin-stands, pin-empty, pin-past, pin-off}
 use Rattle.ticket.proofs.Filled.{length-listed, getD-listed}

@@ -13,7 +13,7 @@ use lib.ListN.{length}
 use borrow.Author.Tests.{lt-ltb, le-ltb, eq-eqb, ne-eqb, leb-true}
 use Rattle.grid.specs.Legal.{topNet, box}
 use Rattle.grid.specs.View.{longestSide, within}
-use Rattle.ticket.specs.Format.{byte, largestByte2, largestSideMap, least}
+use Rattle.ticket.specs.Format.{byte, mostTrunkLayers, largestByte2, largestSideMap, least}
 use Rattle.ticket.specs.Read.{refusal, goOn, unless, fieldsOf, headerOf, netsOf, Header, orRefused, refusedTicket}
 use Rattle.ticket.specs.declared.Cursor.{Cursor}
 use Rattle.ticket.specs.declared.Ticket.{Ticket}
@@ -55,7 +55,7 @@ fields-good kind n byte2 map e =
     let d = unless-good (leb map (largestSideMap kind)) 5 3 _ (λ q. omega arith) (c .1) in
     record { kinds = within-is _ _ (a .0); length = within-is _ _ (b .0); second = within-is _ _ (c .0); sides = leb-true _ _ (d .0) }
 
-second-le : (t : Bool) → cond t 90 8 ≤ 90
+second-le : (t : Bool) → cond t longestSide mostTrunkLayers ≤ longestSide
 second-le true = omega arith
 second-le false = omega arith
 

@@ -18,7 +18,7 @@ use Rattle.grid.specs.Legal.{entry}
 abbrev pub bumped : List ℕ → ℕ → List ℕ
 bumped c x = set c x (getD c x 0 + 1)
 
-bumped-at : (c : List ℕ) (x v : ℕ) → x < length c → getD (bumped c x) v 0 ≡ getD c v 0 + bit (eqb x v)
+pub bumped-at : (c : List ℕ) (x v : ℕ) → x < length c → getD (bumped c x) v 0 ≡ getD c v 0 + bit (eqb x v)
 bumped-at c x v inside =
     by-cases (ℕ-discrete x v)
     (λ e. rw (eq-eqb x v e) (subst (λ (k : ℕ). getD (bumped c x) k 0 ≡ getD c k 0 + 1) e (getD-set-same c x _ 0 inside)))

@@ -10,7 +10,6 @@ use lib.ListN.{length}
 use Rattle.counting.specs.Counting.{In}
 use Rattle.grid.specs.Grid.{Grid, Side, south, west, east, pin, places, upright}
 use Rattle.grid.specs.Legal.{Pins as GridPins, topNet, row, box}
-use Rattle.grid.proofs.Pins.{Bare}
 use Rattle.grid.specs.View.{longestSide}
 use Rattle.ticket.specs.declared.Ticket.{Ticket}
 use Rattle.ticket.specs.Format.{mostTrunkLayers, pinsIn, netCount}
@@ -36,8 +35,8 @@ pub record Good (t : Ticket) : Type 0 where
   pub east-size : length (t .pins .east) ≡ longestSide
   pub numbered : (s : Side) (a : ℕ) → pinsIn (t .pins) s a ≤ topNet
   pub ends : (s : Side) (a : ℕ) → places (gridIn t) s < a → pinsIn (t .pins) s a ≡ 0
-  pub bare-south : t .answer .kind ≡ row → Bare (pinsIn (t .pins)) south
-  pub bare-west : t .answer .kind ≢ box → Bare (pinsIn (t .pins)) west
-  pub bare-east : t .answer .kind ≢ box → Bare (pinsIn (t .pins)) east
+  pub bare-south : t .answer .kind ≡ row → (a : ℕ) → pinsIn (t .pins) south a ≡ 0
+  pub bare-west : t .answer .kind ≢ box → (a : ℕ) → pinsIn (t .pins) west a ≡ 0
+  pub bare-east : t .answer .kind ≢ box → (a : ℕ) → pinsIn (t .pins) east a ≡ 0
   pub several : (s : Side) (a : ℕ) → pinsIn (t .pins) s a ≢ 0 → Another (gridIn t) (pinsIn (t .pins)) s a
   pub nets : t .answer .nets ≡ netCount (pinsIn (t .pins))

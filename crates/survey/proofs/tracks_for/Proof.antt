@@ -1,0 +1,20 @@
+-- `survey::tracks_for` meets its contract: the same formula.
+use Prim.Native.Nat.{max}
+use mathlib.Core.Path.{ap, _∙_}
+use borrow.Author.Needs.{needs}
+use Rattle.density.specs.Density.{tracksFor}
+use Rattle.survey.proofs.tracks_for.Statement.{statement}
+use Rattle.survey.proofs.tracks_for.Tie as tie
+
+rounded-up-requires : tie.Need-rounded-up-requires
+rounded-up-requires c κs = search needs
+
+larger-requires : tie.Need-larger-requires
+larger-requires c κs = search needs
+
+returns : tie.Need-returns
+unfolding tracksFor
+returns c = c .larger .ensures ∙ ap (max 1) (c .before .rounded-up .ensures .0)
+
+pub tracks-for-spec : {M : Type 1} → statement M
+tracks-for-spec = tie.close (tie.spec rounded-up-requires larger-requires returns)

@@ -1,0 +1,320 @@
+// Survey: the figures of a ticket, and the program's line. Public calls: survey, survey_line.
+use grid::Column;
+use grid::Layer;
+use grid::Track;
+use ticket::ReadAnswer;
+use ticket::Ticket;
+ghost use mathlib.Core.Path.{_≡_};
+ghost use Prim.Native.Nat.{_+_, _*_, _-_, _≤_, min, max};
+ghost use Rattle.counting.specs.Counting.{In, ceil, most};
+ghost use Rattle.grid.specs.Grid.{upright};
+ghost use Rattle.grid.specs.Legal.{topNet, entry, pinsOf, nets};
+ghost use Rattle.grid.specs.View.{longestSide};
+ghost use Rattle.density.specs.Density.{across, tracksFor, floor};
+ghost use Rattle.ticket.specs.Good.{Good};
+ghost use Rattle.survey.specs.Spans.{columnAt, passed, at, Widened, Tabled, Turns};
+ghost use Rattle.survey.specs.Survey.{layersFor, trunkFigures, boxFigures, figuresOf, answered, refused, surveyOf};
+
+// The first and the last column of each net, by its number; 255 and 0 where it has no pin.
+struct Spans {
+    pub first: [u8; 256],
+    pub last: [u8; 256],
+}
+
+pub struct SurveyFigures {
+    pub w: Track,
+    pub across: usize,
+    pub up: usize,
+    pub layers: Layer,
+    pub floor: Layer,
+}
+
+pub struct SurveyAnswer {
+    pub number: u8,
+    pub place: usize,
+    pub kind: u8,
+    pub n: Column,
+    pub w: Track,
+    pub nets: u8,
+    pub across: usize,
+    pub up: usize,
+    pub layers: Layer,
+    pub floor: Layer,
+}
+
+fn wide(x: u8) -> usize
+    ensures { λ r. ⌜ r ≡ x ⌝ }
+{
+    x as usize
+}
+
+fn earlier(a: u8, b: u8) -> u8
+    ensures { λ r. ⌜ r ≡ min a b ⌝ }
+{
+    if a < b { a } else { b }
+}
+
+fn later(a: u8, b: u8) -> u8
+    ensures { λ r. ⌜ r ≡ max a b ⌝ }
+{
+    if a < b { b } else { a }
+}
+
+fn smaller(a: usize, b: usize) -> usize
+    ensures { λ r. ⌜ r ≡ min a b ⌝ }
+{
+    if a < b { a } else { b }
+}
+
+fn larger(a: usize, b: usize) -> usize
+    ensures { λ r. ⌜ r ≡ max a b ⌝ }
+{
+    if a < b { b } else { a }
+}
+
+fn column_at(along: bool, fixed: usize, place: usize) -> usize
+    ensures { λ r. ⌜ r ≡ columnAt along fixed place ⌝ }
+{
+    if along { place } else { fixed }
+}
+
+// Adds a side to the table: its places lie at the columns 1, 2, .. (along), or all at one column.
+fn widen(s: Spans, list: [u8; 90], places: usize, along: bool, fixed: usize) -> Spans
+    requires { ⌜ (places ≤ longestSide) × (fixed ≤ longestSide + 1) ⌝ }
+    ensures { λ r. ⌜ Widened s (entry list) (columnAt along fixed) places r ⌝ }
+{
+    let mut first = s.first;
+    let mut last = s.last;
+    let mut i: usize = 0;
+    while i < places {
+        let m = list[i] as usize;
+        let c = column_at(along, fixed, i + 1) as u8;
+        first[m] = earlier(first[m], c);
+        last[m] = later(last[m], c);
+        i += 1;
+    }
+    Spans { first, last }
+}
+
+// The spans of all nets.
+fn spans_of(
+    north: [u8; 90],
+    south: [u8; 90],
+    west: [u8; 90],
+    east: [u8; 90],
+    n: usize,
+    w: usize,
+) -> Spans
+    requires { ⌜ (n ≤ longestSide) × (w ≤ longestSide) ⌝ }
+    ensures { λ r. ⌜ Tabled north south west east n w r ⌝ }
+{
+    let s = Spans {
+        first: [255u8; 256],
+        last: [0u8; 256],
+    };
+    let s = widen(s, north, n, true, 0);
+    let s = widen(s, south, n, true, 0);
+    let s = widen(s, west, w, false, 0);
+    widen(s, east, w, false, n + 1)
+}
+
+// How many nets, of those with more than one column, have their key at each column.
+fn turns(key: [u8; 256], s: Spans) -> [u8; 256]
+    ensures { λ r. ⌜ Turns key s topNet r ⌝ }
+{
+    let first = s.first;
+    let last = s.last;
+    let mut counts = [0u8; 256];
+    let mut m: usize = 0;
+    while m < ticket::TOP_NET {
+        m += 1;
+        if first[m] < last[m] {
+            let v = key[m] as usize;
+            counts[v] = counts[v] + 1;
+        }
+    }
+    counts
+}
+
+// The largest number of nets that a column passes: from column to column, those that begin come in and those that end go.
+fn most_passed(s: Spans, n: usize) -> usize
+    requires { ⌜ n ≤ longestSide ⌝ }
+    ensures { λ r. ⌜ r ≡ most (λ c. nets (passed (at (s .first)) (at (s .last)) c)) n ⌝ }
+{
+    let first = s.first;
+    let last = s.last;
+    let begins = turns(first, s);
+    let ends = turns(last, s);
+    let mut now = wide(begins[0]);
+    let mut best: usize = 0;
+    let mut c: usize = 0;
+    while c < n {
+        c += 1;
+        now += wide(begins[c]);
+        best = larger(best, now);
+        now -= wide(ends[c]);
+    }
+    best
+}
+
+// Across; of the sides exchanged, up.
+fn density(
+    north: [u8; 90],
+    south: [u8; 90],
+    west: [u8; 90],
+    east: [u8; 90],
+    n: usize,
+    w: usize,
+) -> usize
+    requires { ⌜ (n ≤ longestSide) × (w ≤ longestSide) ⌝ }
+    ensures { λ r. ⌜ (r ≡ across (upright n w 1) (pinsOf north south west east)) × (r ≤ topNet) ⌝ }
+{
+    let s = spans_of(north, south, west, east, n, w);
+    most_passed(s, n)
+}
+
+fn rounded_up(a: usize, b: usize) -> usize
+    requires { ⌜ (a ≤ topNet) × (In b longestSide) ⌝ }
+    ensures { λ r. ⌜ (r ≡ ceil a b) × (r ≤ a) ⌝ }
+{
+    (a + (b - 1)) / b
+}
+
+// The layers that Lay uses.
+fn layers_for(kind: u8, n: usize, byte2: usize) -> usize
+    requires { ⌜ (In n longestSide) × (In byte2 longestSide) ⌝ }
+    ensures { λ r. ⌜ r ≡ layersFor kind n byte2 ⌝ }
+{
+    if kind == 3 {
+        let q = rounded_up(larger(n, byte2), smaller(n, byte2));
+        return 2 * q + 4;
+    }
+    if kind == 1 {
+        return 2 * byte2;
+    }
+    2 * byte2 + 1
+}
+
+fn tracks_for(h: usize, a: usize) -> usize
+    requires { ⌜ (In h longestSide) × (a ≤ topNet) ⌝ }
+    ensures { λ r. ⌜ r ≡ tracksFor h a ⌝ }
+{
+    larger(1, rounded_up(a, h))
+}
+
+// 2a - 1, or 0 where a is 0.
+fn odd(a: usize) -> usize
+    requires { ⌜ a ≤ topNet ⌝ }
+    ensures { λ r. ⌜ r ≡ 2 * a - 1 ⌝ }
+{
+    if a == 0 {
+        return 0;
+    }
+    2 * a - 1
+}
+
+fn floor_for(a: usize, b: usize) -> usize
+    requires { ⌜ (a ≤ topNet) × (b ≤ topNet) ⌝ }
+    ensures { λ r. ⌜ r ≡ floor a b ⌝ }
+{
+    larger(1, larger(odd(a), larger(odd(b), a + b)))
+}
+
+// The figures of a row or a channel with h trunk layers.
+fn trunk_figures(h: usize, a: usize, layers: usize) -> SurveyFigures
+    requires { ⌜ (In h longestSide) × (a ≤ topNet) ⌝ }
+    ensures { λ r. ⌜ r ≡ trunkFigures h a layers ⌝ }
+{
+    SurveyFigures {
+        w: Track(tracks_for(h, a)),
+        across: a,
+        up: 0,
+        layers: Layer(layers),
+        floor: Layer(0),
+    }
+}
+
+fn box_figures(n: usize, w: usize, a: usize, u: usize, layers: usize) -> SurveyFigures
+    requires { ⌜ (In n longestSide) × (In w longestSide) × (a ≤ topNet) × (u ≤ topNet) ⌝ }
+    ensures { λ r. ⌜ r ≡ boxFigures n w a u layers ⌝ }
+{
+    SurveyFigures {
+        w: Track(w),
+        across: a,
+        up: u,
+        layers: Layer(layers),
+        floor: Layer(floor_for(rounded_up(a, w), rounded_up(u, n))),
+    }
+}
+
+// The figures of a good reading. (For our own crates.)
+pub fn figures(t: Ticket) -> SurveyFigures
+    requires { ⌜ Good t ⌝ }
+    ensures { λ r. ⌜ r ≡ figuresOf t ⌝ }
+{
+    let answer = t.answer;
+    let n = answer.n.0;
+    let byte2 = wide(answer.byte2);
+    let pins = t.pins;
+    let north = pins.north;
+    let south = pins.south;
+    let west = pins.west;
+    let east = pins.east;
+    let layers = layers_for(answer.kind, n, byte2);
+    let a = density(north, south, west, east, n, byte2);
+    if answer.kind != 3 {
+        return trunk_figures(byte2, a, layers);
+    }
+    let u = density(east, west, south, north, byte2, n);
+    box_figures(n, byte2, a, u, layers)
+}
+
+fn refused(number: u8, place: usize) -> SurveyAnswer
+    ensures { λ r. ⌜ r ≡ refused number place ⌝ }
+{
+    SurveyAnswer {
+        number,
+        place,
+        kind: 0,
+        n: Column(0),
+        w: Track(0),
+        nets: 0,
+        across: 0,
+        up: 0,
+        layers: Layer(0),
+        floor: Layer(0),
+    }
+}
+
+fn answered(a: ReadAnswer, f: SurveyFigures) -> SurveyAnswer
+    ensures { λ r. ⌜ r ≡ answered a f ⌝ }
+{
+    let n = a.n;
+    let w = f.w;
+    let layers = f.layers;
+    let floor = f.floor;
+    SurveyAnswer {
+        number: 0,
+        place: 0,
+        kind: a.kind,
+        n,
+        w,
+        nets: a.nets,
+        across: f.across,
+        up: f.up,
+        layers,
+        floor,
+    }
+}
+
+// Public call Survey.
+pub fn survey(ticket: &[u8]) -> SurveyAnswer
+    ensures { λ r. ⌜ r ≡ surveyOf (now (ticket .entry)) ⌝ }
+{
+    let t = ticket::parse(ticket);
+    let answer = t.answer;
+    if answer.number != 0 {
+        return refused(answer.number, answer.place);
+    }
+    answered(answer, figures(t))
+}
