@@ -2,8 +2,6 @@
 // number, place, kind, n, byte 2 and nets.
 use libc::STDIN_FILENO;
 use libc::STDOUT_FILENO;
-ghost use Prim.Native.Nat.{_<_, _≤_};
-ghost use lib.ListN.{length};
 
 fn field(x: u64) {
     io::print_decimal(STDOUT_FILENO, x);
@@ -21,32 +19,10 @@ fn show(ticket: &[u8]) {
     io::write_all(STDOUT_FILENO, b"\n");
 }
 
-fn wide(x: u8) -> usize
-    ensures { λ r. ⌜ r < 256 ⌝ }
-{
-    x as usize
-}
-
-// Where the record that starts at `at` ends; `at` itself where it is not whole.
-fn record_end(s: &[u8], at: usize) -> usize
-    requires { ⌜ at ≤ length (now s) ⌝ }
-    ensures { λ r. ⌜ r ≤ length (now (s .entry)) ⌝ }
-{
-    let left = s.len() - at;
-    if left < 2 {
-        return at;
-    }
-    let size = wide(s[at]) + 256 * wide(s[at + 1]);
-    if left - 2 < size {
-        return at;
-    }
-    at + 2 + size
-}
-
-fn records(s: &[u8]) {
+fn all(s: &[u8]) {
     let mut at = 0;
     loop {
-        let end = record_end(s, at);
+        let end = records::record_end(s, at);
         if end < at + 2 {
             return;
         }
@@ -59,5 +35,5 @@ fn records(s: &[u8]) {
 fn main() {
     let mut buffer = io::large_buffer();
     let n = io::read_full(STDIN_FILENO, &mut buffer);
-    records(&buffer[..n]);
+    all(&buffer[..n]);
 }

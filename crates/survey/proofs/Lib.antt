@@ -1,3 +1,4 @@
 pub mod Extremes
 pub mod Sweep
 pub mod Bounds
+pub mod Lines

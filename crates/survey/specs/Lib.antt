@@ -1,2 +1,3 @@
 pub mod Spans
 pub mod Survey
+pub mod Line

@@ -5,7 +5,9 @@ use grid::Track;
 use ticket::ReadAnswer;
 use ticket::Ticket;
 ghost use mathlib.Core.Path.{_≡_};
-ghost use Prim.Native.Nat.{_+_, _*_, _-_, _≤_, min, max};
+ghost use Prim.Native.Nat.{_+_, _*_, _-_, _≤_, _<_, min, max};
+ghost use mathlib.Core.List.{[], _∷_, _++_};
+ghost use lib.ListN.{length, take, drop};
 ghost use Rattle.counting.specs.Counting.{In, ceil, most};
 ghost use Rattle.grid.specs.Grid.{upright};
 ghost use Rattle.grid.specs.Legal.{topNet, entry, pinsOf, nets};
@@ -14,6 +16,7 @@ ghost use Rattle.density.specs.Density.{across, tracksFor, floor};
 ghost use Rattle.ticket.specs.Good.{Good};
 ghost use Rattle.survey.specs.Spans.{columnAt, passed, at, Widened, Tabled, Turns};
 ghost use Rattle.survey.specs.Survey.{layersFor, trunkFigures, boxFigures, figuresOf, answered, refused, surveyOf};
+ghost use Rattle.survey.specs.Line.{decimal, boxLine, trunkLine, refusedLine, lineFor, longestLine, Lined, Says, Adds};
 
 // The first and the last column of each net, by its number; 255 and 0 where it has no pin.
 struct Spans {
@@ -317,4 +320,155 @@ pub fn survey(ticket: &[u8]) -> SurveyAnswer
         return refused(answer.number, answer.place);
     }
     answered(answer, figures(t))
+}
+
+pub const LONGEST_LINE: usize = 192;
+
+// A line as it is built: its first `used` bytes.
+struct Line {
+    pub bytes: [u8; 192],
+    pub used: usize,
+}
+
+// What survey_line answers: whether the line was written, and its length.
+pub struct LineAnswer {
+    pub ok: bool,
+    pub length: usize,
+}
+
+fn blank() -> Line
+    ensures { λ r. ⌜ Says r [] ⌝ }
+{
+    Line {
+        bytes: [0u8; 192],
+        used: 0,
+    }
+}
+
+fn put(line: Line, b: u8) -> Line
+    requires { ⌜ line .used < longestLine ⌝ }
+    ensures { λ r. ⌜ Adds line (b ∷ []) r ⌝ }
+{
+    let mut bytes = line.bytes;
+    let used = line.used;
+    bytes[used] = b;
+    Line {
+        bytes,
+        used: used + 1,
+    }
+}
+
+// The digits before the last, and then the last.
+fn number(line: Line, x: usize) -> Line
+    requires { ⌜ line .used + length (decimal x) ≤ longestLine ⌝ }
+    ensures { λ r. ⌜ Adds line (decimal x) r ⌝ }
+{
+    if x < 10 {
+        return put(line, 48 + x as u8);
+    }
+    let front = number(line, x / 10);
+    put(front, 48 + (x % 10) as u8)
+}
+
+fn word(line: Line, words: &[u8]) -> Line
+    requires { ⌜ line .used + length (now words) ≤ longestLine ⌝ }
+    ensures { λ r. ⌜ Adds line (now (words .entry)) r ⌝ }
+{
+    let mut bytes = line.bytes;
+    let mut used = line.used;
+    let mut i = 0;
+    while i < words.len() {
+        bytes[used] = words[i];
+        used += 1;
+        i += 1;
+    }
+    Line { bytes, used }
+}
+
+// Words and then a number, which has 20 digits at most.
+fn field(line: Line, words: &[u8], x: usize) -> Line
+    requires { ⌜ line .used + length (now words) + 20 ≤ longestLine ⌝ }
+    ensures { λ r. ⌜ Adds line (now (words .entry) ++ decimal x) r ⌝ }
+    ensures { λ r. ⌜ r .used ≤ line .used + length (now (words .entry)) + 20 ⌝ }
+{
+    number(word(line, words), x)
+}
+
+fn box_line(a: SurveyAnswer) -> Line
+    ensures { λ r. ⌜ Says r (boxLine a) ⌝ }
+    ensures { λ r. ⌜ r .used ≤ longestLine ⌝ }
+{
+    let line = field(blank(), b"box length ", a.n.0);
+    let line = field(line, b" width ", a.w.0);
+    let line = field(line, b" nets ", wide(a.nets));
+    let line = field(line, b" across ", a.across);
+    let line = field(line, b" up ", a.up);
+    let line = field(line, b" layers ", a.layers.0);
+    let line = field(line, b" floor ", a.floor.0);
+    put(line, b'\n')
+}
+
+// A row or a channel, its first words given.
+fn trunk_line(a: SurveyAnswer, words: &[u8]) -> Line
+    requires { ⌜ length (now words) ≤ 15 ⌝ }
+    ensures { λ r. ⌜ Says r (trunkLine (now (words .entry)) a) ⌝ }
+    ensures { λ r. ⌜ r .used ≤ longestLine ⌝ }
+{
+    let line = field(blank(), words, a.n.0);
+    let line = field(line, b" nets ", wide(a.nets));
+    let line = field(line, b" across ", a.across);
+    let line = field(line, b" tracks ", a.w.0);
+    let line = field(line, b" layers ", a.layers.0);
+    put(line, b'\n')
+}
+
+fn refused_line(a: SurveyAnswer) -> Line
+    ensures { λ r. ⌜ Says r (refusedLine a) ⌝ }
+    ensures { λ r. ⌜ r .used ≤ longestLine ⌝ }
+{
+    let line = field(blank(), b"refused ", wide(a.number));
+    let line = field(line, b" at ", a.place);
+    put(line, b'\n')
+}
+
+fn line_for(a: SurveyAnswer) -> Line
+    ensures { λ r. ⌜ Says r (lineFor a) ⌝ }
+    ensures { λ r. ⌜ r .used ≤ longestLine ⌝ }
+{
+    if a.number != 0 {
+        return refused_line(a);
+    }
+    if a.kind == 3 {
+        return box_line(a);
+    }
+    if a.kind == 1 {
+        return trunk_line(a, b"row length ");
+    }
+    trunk_line(a, b"channel length ")
+}
+
+fn copy(line: Line, out: &mut [u8])
+    requires { ⌜ (line .used ≤ longestLine) × (line .used ≤ length (now out)) ⌝ }
+    ensures { λ _. ⌜ now (out .exit) ≡ take (line .used) (line .bytes) ++ drop (line .used) (now (out .entry)) ⌝ }
+{
+    let bytes = line.bytes;
+    let used = line.used;
+    let mut i = 0;
+    while i < used {
+        out[i] = bytes[i];
+        i += 1;
+    }
+}
+
+// Public call Survey, as the program's line: written to the front of `out`, or, where `out` is too short, only measured.
+pub fn survey_line(ticket: &[u8], out: &mut [u8]) -> LineAnswer
+    ensures { λ r. ⌜ Lined (now (ticket .entry)) (now (out .entry)) (now (out .exit)) r ⌝ }
+{
+    let line = line_for(survey(ticket));
+    let length = line.used;
+    if out.len() < length {
+        return LineAnswer { ok: false, length };
+    }
+    copy(line, out);
+    LineAnswer { ok: true, length }
 }

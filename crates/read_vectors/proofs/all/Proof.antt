@@ -1,9 +1,9 @@
--- `read_vectors::records` is safe and ends: each record that is read moves `at` towards the end of the input.
+-- It is safe and ends: each record that is read moves `at` towards the end of the input.
 use Prim.Native.Nat.{_-_, _≤_}
 use lib.ListN.{length}
 use borrow.Author.Needs.{needs}
-use Rattle.read_vectors.proofs.records.Statement.{statement}
-use Rattle.read_vectors.proofs.records.Tie as tie
+use Rattle.read_vectors.proofs.all.Statement.{statement}
+use Rattle.read_vectors.proofs.all.Tie as tie
 
 abbrev Inv-loop : tie.InvT-loop
 Inv-loop s at₀ at = at ≤ length s
@@ -44,8 +44,8 @@ loop-less c = search needs
 loop-again : tie.Need-loop-again Inv-loop μ-loop
 loop-again c = search needs
 
-pub records-spec : {M : Type 1} → statement M
-records-spec =
+pub all-spec : {M : Type 1} → statement M
+all-spec =
     tie.close
     (tie.spec
     Inv-loop

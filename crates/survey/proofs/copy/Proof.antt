@@ -1,0 +1,64 @@
+-- `survey::copy` meets its contract: the bytes passed are the line's, the others as they were.
+use Prim.Native.Nat.{ℕ, _-_, _≤_}
+use mathlib.Core.List.{List, _++_}
+use mathlib.Core.Path.{_≡_, ap, _∙_, refl}
+use native.Mathlib.Omega.{arith}
+use lib.ListN.{length, take, drop, getD, set, length-set}
+use denote.Ref.{now}
+use borrow.Author.Needs.{needs}
+use Rattle.survey.proofs.Lines.{copied-more}
+use Rattle.survey.proofs.copy.Statement.{statement}
+use Rattle.survey.proofs.copy.Tie as tie
+
+abbrev Inv-loop : tie.InvT-loop
+Inv-loop out₀ bytes used i₀ out i = (i ≤ used) × (length out ≡ length out₀) × (out ≡ take i bytes ++ drop i out₀)
+
+abbrev μ-loop : tie.MeasureT-loop
+μ-loop out₀ bytes used i₀ out i = used - i
+
+loop-holds : tie.Need-loop-holds Inv-loop μ-loop
+loop-holds c = (omega arith, refl, refl)
+
+array-read-out : tie.Need-array-read-out Inv-loop μ-loop
+array-read-out c = search needs
+
+slice-write-out : tie.Need-slice-write-out Inv-loop μ-loop
+slice-write-out c = search needs
+
+add-i : tie.Need-add-i Inv-loop μ-loop
+add-i c = search needs
+
+loop-less : tie.Need-loop-less Inv-loop μ-loop
+loop-less c = search needs
+
+loop-again : tie.Need-loop-again Inv-loop μ-loop
+loop-again c =
+    let l = c .before .loop in
+    let line = c .before .before .before .args .line in
+    let size : length (line .bytes) ≡ 192 = search needs in
+    (omega arith, simp length-set (l .inv .1), ap (λ (k : List ℕ). set k (l .i) (getD (line .bytes) (l .i) 0)) (l .inv .2) ∙ copied-more (line .bytes) (now (c .before .before .before .args .out)) (l .i) (omega arith) (omega arith))
+
+same-length : tie.Need-same-length Inv-loop μ-loop
+same-length c = search needs
+
+returns : tie.Need-returns Inv-loop μ-loop
+returns c =
+    let l = c .before .loop in
+    let line = c .before .before .before .args .line in
+    let e : l .i ≡ line .used = omega arith in
+    l .inv .2 ∙ ap (λ (k : ℕ). take k (line .bytes) ++ drop k (now (c .before .before .before .args .out))) e
+
+pub copy-spec : {M : Type 1} → statement M
+copy-spec =
+    tie.close
+    (tie.spec
+    Inv-loop
+    μ-loop
+    loop-holds
+    array-read-out
+    slice-write-out
+    add-i
+    loop-less
+    loop-again
+    same-length
+    returns)

@@ -1,0 +1,23 @@
+-- `survey::put` meets its contract: one byte stored past the used ones.
+use mathlib.Core.Path.{_≡_}
+use native.Mathlib.Omega.{arith}
+use lib.ListN.{length}
+use borrow.Author.Needs.{needs}
+use Rattle.survey.proofs.Lines.{adds-one}
+use Rattle.survey.proofs.put.Statement.{statement}
+use Rattle.survey.proofs.put.Tie as tie
+
+array-write-bytes : tie.Need-array-write-bytes
+array-write-bytes c = search needs
+
+add-t8 : tie.Need-add-t8
+add-t8 c = search needs
+
+returns : tie.Need-returns
+returns c =
+    let line = c .before .args .line in
+    let size : length (line .bytes) ≡ 192 = search needs in
+    adds-one line (c .before .args .b) (omega arith)
+
+pub put-spec : {M : Type 1} → statement M
+put-spec = tie.close (tie.spec array-write-bytes add-t8 returns)

@@ -1,0 +1,87 @@
+-- The program's line.
+--
+--   text words       the bytes of a text
+--   decimal x        "Other numbers are in base ten": its digits, with no zero in front
+--   spelled fuel x   the same, where x has no more digits than fuel
+--   field words x    words and then a number
+--   boxLine a        "(n, w, distinct nets, across, up, layers Lay uses, floor)"
+--   trunkLine words a
+--                    the line of a row or a channel, which begins with words; "row length 6 nets 3 across 2 tracks 2 layers 2"; "Channels print channel likewise"
+--   refusedLine a    "refused 9 at 1"
+--   lineOf s         the line of a ticket; "Each line ends in one newline"
+--   longestLine      no line is longer
+--   lineOver l out   a buffer with the line written to its front; a buffer that is too short is left as it is
+--   Lined s before after r
+--                    what survey_line does: it answers the length that the line needs, and whether the buffer has it
+--   Says, Adds       not part of the definition, but what the functions build the line from: what a line holds, and what is added to it
+use Prim.Native.Nat.{ℕ, zero, suc, _+_, _/_, _%_, _≤_}
+use Prim.Native.Char.{code}
+use Prim.Native.String.{String, [] as end, _∷_ as _then_}
+use mathlib.Core.Path.{_≡_}
+use mathlib.Core.Bool.{cond}
+use mathlib.Core.List.{List, [], _∷_, _++_}
+use lib.Dec.{ltb, leb, eqb}
+use lib.ListN.{length, take, drop}
+use Rattle.grid.specs.Legal.{row, box}
+use Rattle.survey.specs.declared.SurveyAnswer.{SurveyAnswer}
+use Rattle.survey.specs.declared.Line.{Line}
+use Rattle.survey.specs.declared.LineAnswer.{LineAnswer}
+use Rattle.survey.specs.Survey.{surveyOf}
+
+abbrev pub text : String → List ℕ
+text end = []
+text (c then s) = code c ∷ text s
+
+unfoldable pub spelled : ℕ → ℕ → List ℕ
+spelled zero x = []
+spelled (suc fuel) x = cond (ltb x 10) ((48 + x) ∷ []) (spelled fuel (x / 10) ++ ((48 + x % 10) ∷ []))
+
+abbrev pub decimal : ℕ → List ℕ
+decimal x = spelled (suc x) x
+
+abbrev pub field : String → ℕ → List ℕ
+field words x = text words ++ decimal x
+
+abbrev pub boxLine : SurveyAnswer → List ℕ
+boxLine a =
+    field "box length " (a .n .0) ++ field " width " (a .w .0) ++ field " nets " (a .nets) ++ field " across " (a .across) ++ field " up " (a .up)
+    ++ field " layers " (a .layers .0) ++ field " floor " (a .floor .0) ++ text "\n"
+
+abbrev pub trunkLine : List ℕ → SurveyAnswer → List ℕ
+trunkLine words a =
+    (words ++ decimal (a .n .0)) ++ field " nets " (a .nets) ++ field " across " (a .across) ++ field " tracks " (a .w .0) ++ field " layers " (a .layers .0)
+    ++ text "\n"
+
+abbrev pub refusedLine : SurveyAnswer → List ℕ
+refusedLine a = field "refused " (a .number) ++ field " at " (a .place) ++ text "\n"
+
+unfoldable pub lineFor : SurveyAnswer → List ℕ
+lineFor a =
+    cond (eqb (a .number) 0)
+    (cond (eqb (a .kind) box) (boxLine a) (cond (eqb (a .kind) row) (trunkLine (text "row length ") a) (trunkLine (text "channel length ") a)))
+    (refusedLine a)
+
+abbrev pub lineOf : List ℕ → List ℕ
+lineOf s = lineFor (surveyOf s)
+
+abbrev pub longestLine : ℕ
+longestLine = 192
+
+unfoldable pub lineOver : List ℕ → List ℕ → List ℕ
+lineOver l out = cond (leb (length l) (length out)) (l ++ drop (length l) out) out
+
+pub record Lined (s before after : List ℕ) (r : LineAnswer) : Type 0 where
+  pub needed : r .length ≡ length (lineOf s)
+  pub short : r .length ≤ longestLine
+  pub written : r .ok ≡ leb (length (lineOf s)) (length before)
+  pub bytes : after ≡ lineOver (lineOf s) before
+
+-- ---- what the functions build the line from
+
+pub record Says (line : Line) (l : List ℕ) : Type 0 where
+  pub size : line .used ≡ length l
+  pub bytes : take (line .used) (line .bytes) ≡ l
+
+pub record Adds (line : Line) (l : List ℕ) (r : Line) : Type 0 where
+  pub size : r .used ≡ line .used + length l
+  pub bytes : take (r .used) (r .bytes) ≡ take (line .used) (line .bytes) ++ l
