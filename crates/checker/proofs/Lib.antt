@@ -1,0 +1,5 @@
+pub mod Verdict
+pub mod Answers
+pub mod Scans
+pub mod Lists
+pub mod Refusals

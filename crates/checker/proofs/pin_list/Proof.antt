@@ -1,0 +1,34 @@
+-- `checker::pin_list` meets its contract: side by side.
+use borrow.Author.Needs.{needs}
+use native.Mathlib.Omega.{arith}
+use mathlib.Core.Path.{_≡_}
+use Prim.Native.Nat.{ℕ}
+use lib.ListN.{length-replicate}
+use Rattle.checker.proofs.Lists.{pin-list}
+use Rattle.checker.proofs.pin_list.Statement.{statement}
+use Rattle.checker.proofs.pin_list.Tie as tie
+
+put-requires : tie.Need-put-requires
+put-requires c κs = search needs
+
+put-requires-2 : tie.Need-put-requires-2
+put-requires-2 c κs = search needs
+
+put-requires-3 : tie.Need-put-requires-3
+put-requires-3 c κs = search needs
+
+put-requires-4 : tie.Need-put-requires-4
+put-requires-4 c κs = search needs
+
+returns : tie.Need-returns
+returns c =
+    let args = c .before .before .before .before .before .before .before .before .args in
+    let put = c .before .before .before .put in
+    let put2 = c .before .before .put2 in
+    let put3 = c .before .put3 in
+    let put4 = c .put4 in
+    pin-list (args .pins) _ (put .result) (put2 .result) (put3 .result) (put4 .result) (length-replicate {A = ℕ} 360 0) (put .ensures) (put2 .ensures) (put3 .ensures) (put4 .ensures)
+
+pub pin-list-spec : {M : Type 1} → statement M
+pin-list-spec =
+    tie.close (tie.spec put-requires put-requires-2 put-requires-3 put-requires-4 returns)

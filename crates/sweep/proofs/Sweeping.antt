@@ -1,0 +1,185 @@
+-- Sweeps compose: what two runs over edges do one after the other is one sweep over the edges of both, because a run adds only marks that no run goes on from.
+use Prim.Native.Nat.{ℕ, zero, suc, _+_, _<_}
+use mathlib.Core.Path.{_≡_, refl, sym, ap, _∙_, subst}
+use mathlib.Core.Logic.{_⊎_, inl, inr, _≢_, ⊎-elim}
+use mathlib.Core.List.{List}
+use native.Mathlib.Omega.{arith}
+use native.Mathlib.Decide.{ℕ-discrete}
+use lib.ListN.{length, set}
+use lib.Seq.{getD-set-same}
+use Rattle.sweep.specs.Marks.{at, Spot, a-pin, a-point, val, State, one, two, zeros, Reach, here, on, back, Shut, Added, Swept, Grown, Settled}
+use Rattle.sweep.specs.Edges.{Only, Below, Inner}
+use Rattle.sweep.proofs.Zeros.{zeros-set, elsewhere}
+
+-- σ′ is σ with a new mark at i
+pub record Marked {A : Type 0} (σ σ′ : State A) (i : A) : Type 0 where
+  pub was : σ .mark i ≡ 0
+  pub is : σ′ .mark i ≡ 2
+  pub rest : (c : A) → (c ≡ i) ⊎ (σ′ .mark c ≡ σ .mark c)
+  pub fewer : σ′ .left + 1 ≡ σ .left
+
+module _ {A : Type 0} {v : A → ℕ} where
+  module _ {σ σ′ : State A} {E : A → A → Type 0} {c : ℕ} (s : Swept v σ σ′ E c) where
+    -- what was marked stays as it is, what is marked 1 was
+    old-stays : (a : A) → σ .mark a ≢ 0 → σ′ .mark a ≡ σ .mark a
+    old-stays a h = ⊎-elim (λ e. e) (λ n. absurd (h (n .was))) (s .each a)
+
+    one-was : (a : A) → σ′ .mark a ≡ 1 → σ .mark a ≡ 1
+    one-was a h = ⊎-elim (λ e. sym e ∙ h) (λ n. absurd (omega (arith, n .is))) (s .each a)
+
+    none-was : (a : A) → σ′ .mark a ≡ 0 → σ .mark a ≡ 0
+    none-was a h = ⊎-elim (λ e. sym e ∙ h) (λ n. n .was) (s .each a)
+
+    pub kept : (a : A) → σ .mark a ≢ 0 → σ′ .mark a ≢ 0
+    kept a h z = h (none-was a z)
+
+  added-as : {σ σ₁ σ₂ : State A} {E G : A → A → Type 0} (a : A) → ((b : A) → E a b → G a b) → ((b : A) → E b a → G b a)
+      → σ₂ .mark a ≡ σ₁ .mark a → Added v σ σ₁ E a → Added v σ σ₂ G a
+  added-as a i j e n =
+      record { was = n .was; is = e ∙ n .is; from = n .from; edge = ⊎-elim (λ h. inl (i _ h)) (λ h. inr (j _ h)) (n .edge); same = n .same; old = n .old }
+
+  -- one run after another: the edges of both
+  pub swept-then : {σ σ₁ σ₂ : State A} {E F : A → A → Type 0} {c d : ℕ} (G : A → A → Type 0)
+      → ((a b : A) → E a b → G a b) → ((a b : A) → F a b → G a b) → ((a b : A) → G a b → E a b ⊎ F a b)
+      → Swept v σ σ₁ E c → Swept v σ₁ σ₂ F d → Swept v σ σ₂ G (c + d)
+  swept-then {σ} {σ₁} {σ₂} {E} {F} {c} {d} G i j k s t =
+      record {
+        each = λ a. ⊎-elim (λ e. ⊎-elim (λ h. inl (e ∙ h)) (λ n. inr (added-as a (i a) (λ b. i b a) e n)) (s .each a)) (λ n. inr (later a n)) (t .each a);
+        full = λ a b e. ⊎-elim (first a b) (second a b) (k a b e);
+        still = λ z a. t .still (omega arith) a ∙ s .still (omega arith) a;
+        less = omega (arith, s .less, t .less);
+      }
+    where
+      later : (a : A) → Added v σ₁ σ₂ F a → Added v σ σ₂ G a
+      later a n =
+          record {
+            was = none-was s a (n .was);
+            is = n .is;
+            from = n .from;
+            edge = ⊎-elim (λ h. inl (j _ _ h)) (λ h. inr (j _ _ h)) (n .edge);
+            same = n .same;
+            old = one-was s (n .from) (n .old);
+          }
+
+      first : (a b : A) → E a b → Shut (v a) (v b) (σ .mark a) (σ .mark b) (σ₂ .mark a) (σ₂ .mark b)
+      first a b e = record { there = λ q h. kept t b (s .full a b e .there q h); back = λ q h. kept t a (s .full a b e .back q h) }
+
+      reached : (a : A) → σ .mark a ≡ 1 → σ₁ .mark a ≡ 1
+      reached a h = old-stays s a (λ z. omega arith) ∙ h
+
+      second : (a b : A) → F a b → Shut (v a) (v b) (σ .mark a) (σ .mark b) (σ₂ .mark a) (σ₂ .mark b)
+      second a b e = record { there = λ q h. t .full a b e .there q (reached a h); back = λ q h. t .full a b e .back q (reached b h) }
+
+  -- nothing done, where every edge is shut
+  pub swept-quiet : {σ : State A} (G : A → A → Type 0)
+      → ((a b : A) → G a b → Shut (v a) (v b) (σ .mark a) (σ .mark b) (σ .mark a) (σ .mark b)) → Swept v σ σ G 0
+  swept-quiet G shut = record { each = λ a. inl refl; full = shut; still = λ z a. refl; less = omega arith }
+
+  pub swept-none : {σ : State A} (G : A → A → Type 0) → ((a b : A) → G a b → ⊥) → Swept v σ σ G 0
+  swept-none G nowhere = swept-quiet G (λ a b e. absurd (nowhere a b e))
+
+  -- the same edges, said another way
+  pub swept-as : {σ σ′ : State A} {E : A → A → Type 0} {c : ℕ} (G : A → A → Type 0) → ((a b : A) → E a b → G a b) → ((a b : A) → G a b → E a b)
+      → Swept v σ σ′ E c → Swept v σ σ′ G c
+  swept-as G i j s =
+      record {
+        each = λ a. ⊎-elim inl (λ n. inr (added-as a (i a) (λ b. i b a) refl n)) (s .each a);
+        full = λ a b e. s .full a b (j a b e);
+        still = s .still;
+        less = s .less;
+      }
+
+  pub below-none : {σ : State A} (F : ℕ → A → A → Type 0) → Swept v σ σ (Below F 0) 0
+  below-none F = swept-none _ (λ a b e. omega (arith, e .1))
+
+  pub below-more : {σ σ₁ σ₂ : State A} {c d : ℕ} (F : ℕ → A → A → Type 0) (top : ℕ)
+      → Swept v σ σ₁ (Below F top) c → Swept v σ₁ σ₂ (F top) d → Swept v σ σ₂ (Below F (top + 1)) (c + d)
+  below-more F top s r =
+      swept-then _ (λ a b e. (e .0, omega (arith, e .1), e .2)) (λ a b e. (top, omega arith, e)) (λ a b e. which a b (e .0) (e .1) (e .2)) s r
+    where
+      which : (a b : A) (j : ℕ) → j < top + 1 → F j a b → Below F top a b ⊎ F top a b
+      which a b j h f = elim (ℕ-discrete j top) [ yes p ↦ inr (subst (λ (i : ℕ). F i a b) p f) | no n ↦ inl (j, omega arith, f) ]
+
+  pub below-all : {σ σ₁ : State A} {c : ℕ} (F : ℕ → A → A → Type 0) (i top : ℕ) → i ≡ top → Swept v σ σ₁ (Below F i) c → Swept v σ σ₁ (Below F top) c
+  below-all {σ} {σ₁} {c} F i top e s = subst (λ (u : ℕ). Swept v σ σ₁ (Below F u) c) e s
+
+  -- the edge from a to b, where both are alike or hold different values
+  pub only-quiet : {σ : State A} (a b : A) → Shut (v a) (v b) (σ .mark a) (σ .mark b) (σ .mark a) (σ .mark b) → Swept v σ σ (Only a b) 0
+  only-quiet {σ} a b s = swept-quiet (Only a b) (λ c d e. rw (e .0, e .1) s)
+
+  -- the edge from a to b, and a or b is marked
+  only-marked : {σ σ′ : State A} (a b i o : A) → Marked σ σ′ i → σ .mark o ≡ 1 → v i ≡ v o → (Only a b i o) ⊎ (Only a b o i) → Swept v σ σ′ (Only a b) 1
+  only-marked {σ} {σ′} a b i o m old q e =
+      record {
+        each = λ c. ⊎-elim (λ h. inr (subst (Added v σ σ′ (Only a b)) (sym h) added)) inl (m .rest c);
+        full = λ c d f. ⊎-elim (λ h. first c d f h) (λ h. second c d f h) e;
+        still = λ z c. absurd (omega arith);
+        less = m .fewer;
+      }
+    where
+      added : Added v σ σ′ (Only a b) i
+      added = record { was = m .was; is = m .is; from = o; edge = e; same = q; old = old }
+
+      o-kept : σ′ .mark o ≢ 0
+      o-kept z = ⊎-elim (λ h. let u : σ .mark o ≡ 0 = ap (σ .mark) h ∙ m .was in omega arith) (λ h. omega arith) (m .rest o)
+
+      i-kept : σ′ .mark i ≢ 0
+      i-kept z = omega (arith, m .is)
+
+      first : (c d : A) → Only a b c d → Only a b i o → Shut (v c) (v d) (σ .mark c) (σ .mark d) (σ′ .mark c) (σ′ .mark d)
+      first c d f h = rw (f .0, f .1, ← h .0, ← h .1) (record { there = λ p r. o-kept; back = λ p r. i-kept })
+
+      second : (c d : A) → Only a b c d → Only a b o i → Shut (v c) (v d) (σ .mark c) (σ .mark d) (σ′ .mark c) (σ′ .mark d)
+      second c d f h = rw (f .0, f .1, ← h .0, ← h .1) (record { there = λ p r. i-kept; back = λ p r. o-kept })
+
+  pub only-first : {σ σ′ : State A} (a b : A) → v a ≡ v b → σ .mark b ≡ 1 → Marked σ σ′ a → Swept v σ σ′ (Only a b) 1
+  only-first a b q h m = only-marked a b a b m h q (inl (refl, refl))
+
+  pub only-second : {σ σ′ : State A} (a b : A) → v a ≡ v b → σ .mark a ≡ 1 → Marked σ σ′ b → Swept v σ σ′ (Only a b) 1
+  only-second a b q h m = only-marked a b b a m h (sym q) (inr (refl, refl))
+
+pub marked-one : (m : List ℕ) (i : ℕ) → i < length m → at m i ≡ 0 → Marked (one m) (one (set m i 2)) i
+marked-one m i h z = record { was = z; is = getD-set-same m i 2 0 h; rest = elsewhere m i 2; fewer = zeros-set m i 1 h z }
+
+pub marked-pin : (s m : List ℕ) (i : ℕ) → i < length s → at s i ≡ 0 → Marked (two s m) (two (set s i 2) m) (a-pin i)
+marked-pin s m i h z = record { was = z; is = getD-set-same s i 2 0 h; rest = rest; fewer = omega (arith, zeros-set s i 1 h z) }
+  where
+    rest : (c : Spot) → (c ≡ a-pin i) ⊎ (val (set s i 2) m c ≡ val s m c)
+    rest (a-pin c) = ⊎-elim (λ e. inl (ap a-pin e)) inr (elsewhere s i 2 c)
+    rest (a-point c) = inr refl
+
+pub marked-point : (s m : List ℕ) (i : ℕ) → i < length m → at m i ≡ 0 → Marked (two s m) (two s (set m i 2)) (a-point i)
+marked-point s m i h z = record { was = z; is = getD-set-same m i 2 0 h; rest = rest; fewer = omega (arith, zeros-set m i 1 h z) }
+  where
+    rest : (c : Spot) → (c ≡ a-point i) ⊎ (val s (set m i 2) c ≡ val s m c)
+    rest (a-pin c) = inr refl
+    rest (a-point c) = ⊎-elim (λ e. inl (ap a-point e)) inr (elsewhere m i 2 c)
+
+-- a sweep of the points alone, seen with the pins
+pub inner : (p x s m m′ : List ℕ) {E : ℕ → ℕ → Type 0} {c : ℕ} → Swept (at x) (one m) (one m′) E c → Swept (val p x) (two s m) (two s m′) (Inner E) c
+inner p x s m m′ {E} {c} r = record { each = each; full = full; still = still; less = omega (arith, r .less) }
+  where
+    there : (q : ℕ) → Added (at x) (one m) (one m′) E q → Added (val p x) (two s m) (two s m′) (Inner E) (a-point q)
+    there q n = record { was = n .was; is = n .is; from = a-point (n .from); edge = n .edge; same = n .same; old = n .old }
+
+    each : (a : Spot) → (val s m′ a ≡ val s m a) ⊎ Added (val p x) (two s m) (two s m′) (Inner E) a
+    each (a-pin a) = inl refl
+    each (a-point q) = ⊎-elim inl (λ n. inr (there q n)) (r .each q)
+
+    full : (a b : Spot) → Inner E a b → Shut (val p x a) (val p x b) (val s m a) (val s m b) (val s m′ a) (val s m′ b)
+    full (a-point a) (a-point b) e = r .full a b e
+    full (a-point a) (a-pin b) e = absurd e
+    full (a-pin a) b e = absurd e
+
+    still : c ≡ 0 → (a : Spot) → val s m′ a ≡ val s m a
+    still z (a-pin a) = refl
+    still z (a-point q) = r .still z q
+
+-- what holds of the edges below top, and of those at top, holds of those below top + 1
+pub below-each : {A : Type 0} (P : A → A → Type 0) (F : ℕ → A → A → Type 0) (top : ℕ)
+    → ((a b : A) → Below F top a b → P a b) → ((a b : A) → F top a b → P a b) → (a b : A) → Below F (top + 1) a b → P a b
+below-each P F top s t a b e =
+    elim (ℕ-discrete (e .0) top) [ yes p ↦ t a b (subst (λ (i : ℕ). F i a b) p (e .2)) | no n ↦ s a b (e .0, omega (arith, e .1), e .2) ]
+
+pub swept-at : {I A : Type 0} {v : A → ℕ} {σ σ′ : State A} {c : ℕ} (F : I → A → A → Type 0) (i j : I) → i ≡ j → Swept v σ σ′ (F i) c → Swept v σ σ′ (F j) c
+swept-at {I} {v} {σ} {σ′} {c} F i j e s = subst (λ (u : I). Swept v σ σ′ (F u) c) e s

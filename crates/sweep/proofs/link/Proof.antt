@@ -1,0 +1,86 @@
+-- `sweep::link` meets its contract: by what the two points hold and how they are marked.
+use borrow.Author.Needs.{needs}
+use native.Mathlib.Omega.{arith}
+use denote.Ref.{now}
+use Rattle.sweep.proofs.Sweeping.{only-quiet, only-first, only-second, marked-one}
+use Rattle.sweep.proofs.link.Statement.{statement}
+use Rattle.sweep.proofs.link.Tie as tie
+
+shared-slice-read-if1 : tie.Need-shared-slice-read-if1
+shared-slice-read-if1 c = search needs
+
+shared-slice-read-if1-2 : tie.Need-shared-slice-read-if1-2
+shared-slice-read-if1-2 c = search needs
+
+returns : tie.Need-returns
+returns c =
+    let if1 = c .if1 in
+    only-quiet _ _ (record { there = λ q h. absurd (if1 .taken q); back = λ q h. absurd (if1 .taken q) })
+
+slice-read-if2 : tie.Need-slice-read-if2
+slice-read-if2 c = search needs
+
+slice-read-if3 : tie.Need-slice-read-if3
+slice-read-if3 c = search needs
+
+slice-write-m : tie.Need-slice-write-m
+slice-write-m c = search needs
+
+same-length : tie.Need-same-length
+same-length c = search needs
+
+returns-2 : tie.Need-returns-2
+returns-2 c =
+    let if1 = c .before .before .before .before .if1 in
+    let args = c .before .before .before .before .before .before .before .args in
+    only-first _ _ (if1 .left) (c .if3 .taken) (marked-one (now (args .m)) (args .a) (omega arith) (c .before .before .if2 .taken))
+
+returns-3 : tie.Need-returns-3
+returns-3 c = only-quiet _ _ (record { there = λ q h. absurd (omega arith); back = λ q h. absurd (c .if3 .left h) })
+
+slice-read-if4 : tie.Need-slice-read-if4
+slice-read-if4 c = search needs
+
+slice-read-if5 : tie.Need-slice-read-if5
+slice-read-if5 c = search needs
+
+slice-write-m-2 : tie.Need-slice-write-m-2
+slice-write-m-2 c = search needs
+
+same-length-2 : tie.Need-same-length-2
+same-length-2 c = search needs
+
+returns-4 : tie.Need-returns-4
+returns-4 c =
+    let if1 = c .before .before .before .before .before .before .if1 in
+    let args = c .before .before .before .before .before .before .before .before .before .args in
+    only-second _ _ (if1 .left) (c .before .before .if4 .taken) (marked-one (now (args .m)) (args .b) (omega arith) (c .if5 .taken))
+
+returns-5 : tie.Need-returns-5
+returns-5 c =
+    let if2 = c .before .before .before .before .if2 in
+    only-quiet _ _ (record { there = λ q h. c .if5 .left; back = λ q h. if2 .left })
+
+returns-6 : tie.Need-returns-6
+returns-6 c = only-quiet _ _ (record { there = λ q h. absurd (c .if4 .left h); back = λ q h. c .before .before .if2 .left })
+
+pub link-spec : {M : Type 1} → statement M
+link-spec =
+    tie.close
+    (tie.spec
+    shared-slice-read-if1
+    shared-slice-read-if1-2
+    returns
+    slice-read-if2
+    slice-read-if3
+    slice-write-m
+    same-length
+    returns-2
+    returns-3
+    slice-read-if4
+    slice-read-if5
+    slice-write-m-2
+    same-length-2
+    returns-4
+    returns-5
+    returns-6)

@@ -1,0 +1,71 @@
+-- `sweep::mark_run` meets its contract: the edges passed are swept.
+use Prim.Native.Nat.{ℕ, _≤_, _-_}
+use mathlib.Core.Path.{_≡_}
+use borrow.Author.Needs.{needs}
+use native.Mathlib.Omega.{arith}
+use lib.ListN.{length}
+use denote.Ref.{now}
+use Rattle.sweep.specs.Marks.{at, one, Swept}
+use Rattle.sweep.specs.Edges.{Run}
+use Rattle.sweep.proofs.Zeros.{zeros-le}
+use Rattle.sweep.proofs.Sweeping.{below-none, below-more, below-all}
+use Rattle.sweep.proofs.mark_run.Statement.{statement}
+use Rattle.sweep.proofs.mark_run.Tie as tie
+
+abbrev Inv-loop : tie.InvT-loop
+Inv-loop x m₀ start count gap made₀ t₀ m made t = (t ≤ count) × (length m ≡ length m₀) × Swept (at x) (one m₀) (one m) (Run start t gap) made
+
+abbrev μ-loop : tie.MeasureT-loop
+μ-loop x m₀ start count gap made₀ t₀ m made t = count - t
+
+loop-holds : tie.Need-loop-holds Inv-loop μ-loop
+loop-holds c = (search needs, search needs, below-none _)
+
+add-a : tie.Need-add-a Inv-loop μ-loop
+add-a c = search needs
+
+add-link : tie.Need-add-link Inv-loop μ-loop
+add-link c = search needs
+
+link-requires : tie.Need-link-requires Inv-loop μ-loop
+link-requires c κs = search needs
+
+add-made : tie.Need-add-made Inv-loop μ-loop
+add-made c =
+    let args = c .before .before .before .before .before .before .before .before .args in
+    let loop = c .before .before .before .before .before .loop in
+    omega (arith, zeros-le (now (args .m)), loop .inv .2 .less, c .before .before .link .ensures .less)
+
+add-t : tie.Need-add-t Inv-loop μ-loop
+add-t c = search needs
+
+loop-less : tie.Need-loop-less Inv-loop μ-loop
+loop-less c = search needs
+
+loop-again : tie.Need-loop-again Inv-loop μ-loop
+loop-again c =
+    let loop = c .before .before .before .before .before .loop in
+    (search needs, search needs, below-more _ _ (loop .inv .2) (c .before .before .link .ensures))
+
+same-length : tie.Need-same-length Inv-loop μ-loop
+same-length c = search needs
+
+returns : tie.Need-returns Inv-loop μ-loop
+returns c = below-all _ _ _ (omega arith) (c .before .loop .inv .2)
+
+pub mark-run-spec : {M : Type 1} → statement M
+mark-run-spec =
+    tie.close
+    (tie.spec
+    Inv-loop
+    μ-loop
+    loop-holds
+    add-a
+    add-link
+    link-requires
+    add-made
+    add-t
+    loop-less
+    loop-again
+    same-length
+    returns)

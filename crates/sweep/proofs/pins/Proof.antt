@@ -1,0 +1,106 @@
+-- `sweep::pins` meets its contract: the layers passed are swept; from is where the next one begins.
+use Prim.Native.Nat.{ℕ, _+_, _*_, _≤_, _-_}
+use mathlib.Core.Path.{_≡_}
+use mathlib.Core.Bool.{Bool}
+use borrow.Author.Needs.{needs}
+use native.Mathlib.Omega.{arith}
+use native.Mathlib.Nat.{zero-mul}
+use lib.ListN.{length}
+use denote.Ref.{now}
+use Rattle.sweep.specs.Marks.{val, two, Swept}
+use Rattle.sweep.specs.Edges.{gridOf, Below, Ends, EndsOf}
+use Rattle.sweep.proofs.Zeros.{zeros-le}
+use Rattle.sweep.proofs.Offsets.{next-row, rows-in}
+use Rattle.sweep.proofs.Sweeping.{below-none, below-more, below-all, swept-at}
+use Rattle.sweep.proofs.pins.Statement.{statement}
+use Rattle.sweep.proofs.pins.Tie as tie
+
+abbrev Inv-loop : tie.InvT-loop
+Inv-loop p s₀ x m₀ n w k first made₀ from₀ l₀ s m made from l = (l ≤ k) × (from ≡ l * (n * w)) × (length s ≡ length s₀) × (length m ≡ length m₀) × Swept (val p x) (two s₀ m₀) (two s m) (Below (EndsOf (record { n = n; w = w; k = k; first = first })) l) made
+
+abbrev μ-loop : tie.MeasureT-loop
+μ-loop p s₀ x m₀ n w k first made₀ from₀ l₀ s m made from l = k - l
+
+loop-holds : tie.Need-loop-holds Inv-loop μ-loop
+loop-holds c =
+    let args = c .before .before .before .before .args in
+    (search needs, omega (arith, zero-mul (args .f .n * args .f .w)), search needs, search needs, below-none _)
+
+is-horizontal-requires : tie.Need-is-horizontal-requires Inv-loop μ-loop
+is-horizontal-requires c κs = search needs
+
+ends-requires : tie.Need-ends-requires Inv-loop μ-loop
+ends-requires c κs =
+    let start = c .before .before .before .before .before .before .before .before .before in
+    let loop = c .before .before .before .before .loop in
+    omega (arith, start .pre, loop .inv, rows-in (loop .l) (start .args .f .k) (start .args .f .n * start .args .f .w) (c .before .before .before .loop-test .taken))
+
+add-made : tie.Need-add-made Inv-loop μ-loop
+add-made c =
+    let start = c .before .before .before .before .before .before .before .before .before .before .before .before .before .before in
+    let loop = c .before .before .before .before .before .before .before .before .before .loop in
+    let ends = c .before .before .before .before .ends in
+    omega (arith, zeros-le (now (start .args .s)), zeros-le (now (start .args .m)), loop .inv .4 .less, ends .ensures .less, start .good)
+
+mul-from : tie.Need-mul-from Inv-loop μ-loop
+mul-from c =
+    let start = c .before .before .before .before .before .before .before .before .before .before .before .before .before .before in
+    let loop = c .before .before .before .before .before .before .before .before .before .loop in
+    let loop-test = c .before .before .before .before .before .before .before .before .loop-test in
+    omega (arith, start .pre, start .good, loop .inv, rows-in (loop .l) (start .args .f .k) (start .args .f .n * start .args .f .w) (loop-test .taken))
+
+add-from : tie.Need-add-from Inv-loop μ-loop
+add-from c =
+    let start = c .before .before .before .before .before .before .before .before .before .before .before .before .before .before in
+    let loop = c .before .before .before .before .before .before .before .before .before .loop in
+    let loop-test = c .before .before .before .before .before .before .before .before .loop-test in
+    omega (arith, start .pre, start .good, loop .inv, rows-in (loop .l) (start .args .f .k) (start .args .f .n * start .args .f .w) (loop-test .taken))
+
+add-l : tie.Need-add-l Inv-loop μ-loop
+add-l c = search needs
+
+loop-less : tie.Need-loop-less Inv-loop μ-loop
+loop-less c = search needs
+
+loop-again : tie.Need-loop-again Inv-loop μ-loop
+loop-again c =
+    let loop = c .before .before .before .before .before .before .before .before .before .loop in
+    let args = c .before .before .before .before .before .before .before .before .before .before .before .before .before .before .args in
+    let is-horizontal = c .before .before .before .before .before .is-horizontal in
+    let ends = c .before .before .before .before .ends in (
+      search needs,
+      omega (arith, loop .inv, next-row (loop .l) (args .f .n * args .f .w)),
+      search needs,
+      search needs,
+      below-more (EndsOf (gridOf (args .f))) _ (loop .inv .4)
+          (swept-at (λ (b : Bool). Ends (loop .l * (args .f .n * args .f .w)) (args .f .n) (args .f .w) b) _ _ (is-horizontal .ensures)
+          (swept-at (λ (q : ℕ). Ends q (args .f .n) (args .f .w) (is-horizontal .result)) _ _ (loop .inv .1) (ends .ensures))),
+    )
+
+same-length : tie.Need-same-length Inv-loop μ-loop
+same-length c = search needs
+
+same-length-2 : tie.Need-same-length-2 Inv-loop μ-loop
+same-length-2 c = search needs
+
+returns : tie.Need-returns Inv-loop μ-loop
+returns c = below-all _ _ _ (omega arith) (c .before .loop .inv .4)
+
+pub pins-spec : {M : Type 1} → statement M
+pins-spec =
+    tie.close
+    (tie.spec
+    Inv-loop
+    μ-loop
+    loop-holds
+    is-horizontal-requires
+    ends-requires
+    add-made
+    mul-from
+    add-from
+    add-l
+    loop-less
+    loop-again
+    same-length
+    same-length-2
+    returns)

@@ -1,0 +1,129 @@
+-- The edges between spots, as the sweep's loops go over them: the joins of the grid, by index.
+--
+--   Frame              (src) the grid's counts n, w, k and its first direction
+--   gridOf f           the grid of a frame
+--   horizontal f l     layer l + 1 is horizontal
+--   Only a b           the one edge from a to b
+--   Below F top        the edges of F 0, F 1, .. F (top - 1)
+--   When is E          the edges E, or none
+--   Run start count gap    from each of count points from start on, to the point gap further
+--   Along, Layer, Points   within a layer at q, from a layer to the next too, and of all layers
+--   pinAt s a          the place of pin a of side s in the pin list, which has 90 places for each of north, south, west and east, in this order
+--   PinRun first start gap count  from each of count pins from first on, to the points from start on in steps of gap
+--   Ends, Pins         from the pins that a layer at q touches, and from all pins
+--   Edges g            all edges
+--   Shape f            the counts are those that Check takes
+--   Fits f p s x m     the lengths of the pin list, its marks, the points and their marks
+--   LayerFits, PointsFit, SideFits, EndsFit    what the inner loops ask of these lengths
+use Prim.Native.Nat.{ℕ, _+_, _*_, _-_, _%_, _<_, _≤_}
+use mathlib.Core.Bool.{Bool, true, false}
+use mathlib.Core.Path.{_≡_}
+use mathlib.Core.Logic.{_⊎_}
+use lib.Dec.{ltb, eqb}
+use Rattle.grid.specs.Grid.{Grid, Side, north, south, west, east}
+use Rattle.grid.specs.View.{longestSide, mostLayers}
+use Rattle.counting.specs.Counting.{In}
+use Rattle.sweep.specs.Marks.{Spot, a-pin, a-point}
+use Rattle.sweep.specs.declared.Frame.{Frame}
+
+abbrev pub gridOf : Frame → Grid
+gridOf f = record { n = f .n; w = f .w; k = f .k; first = f .first }
+
+abbrev pub horizontal : Bool → ℕ → Bool
+horizontal true l = eqb (l % 2) 0
+horizontal false l = eqb (l % 2) 1
+
+abbrev pub Only : {A : Type 0} → A → A → A → A → Type 0
+Only a b c d = (c ≡ a) × (d ≡ b)
+
+abbrev pub Below : {A : Type 0} → (ℕ → A → A → Type 0) → ℕ → A → A → Type 0
+Below F top a b = (j : ℕ) × (j < top) × F j a b
+
+abbrev pub When : Bool → (ℕ → ℕ → Type 0) → ℕ → ℕ → Type 0
+When is E a b = (is ≡ true) × E a b
+
+abbrev pub Run : ℕ → ℕ → ℕ → ℕ → ℕ → Type 0
+Run start count gap = Below (λ t. Only (start + t) (start + t + gap)) count
+
+-- w tracks of n points, from q on
+abbrev pub Rows : ℕ → ℕ → ℕ → ℕ → ℕ → Type 0
+Rows q n w = Below (λ j. Run (q + j * n) (n - 1) 1) w
+
+-- along the tracks of a horizontal layer, along the columns of a vertical one
+abbrev pub Along : ℕ → ℕ → ℕ → Bool → ℕ → ℕ → Type 0
+Along q n w true = Rows q n w
+Along q n w false = Run q (n * w - n) n
+
+abbrev pub Layer : ℕ → ℕ → ℕ → Bool → Bool → ℕ → ℕ → Type 0
+Layer q n w last flat a b = When last (Run q (n * w) (n * w)) a b ⊎ Along q n w flat a b
+
+abbrev pub LayerOf : Grid → ℕ → ℕ → ℕ → Type 0
+LayerOf g l = Layer (l * (g .n * g .w)) (g .n) (g .w) (ltb (l + 1) (g .k)) (horizontal (g .first) l)
+
+abbrev pub Points : Grid → ℕ → ℕ → Type 0
+Points g = Below (LayerOf g) (g .k)
+
+abbrev pub pinAt : Side → ℕ → ℕ
+pinAt north a = a - 1
+pinAt south a = 90 + (a - 1)
+pinAt west a = 180 + (a - 1)
+pinAt east a = 270 + (a - 1)
+
+abbrev pub PinRun : ℕ → ℕ → ℕ → ℕ → Spot → Spot → Type 0
+PinRun first start gap count = Below (λ t. Only (a-pin (first + t)) (a-point (start + t * gap))) count
+
+-- west and east of a horizontal layer; south and north of a vertical one
+abbrev pub Ends : ℕ → ℕ → ℕ → Bool → Spot → Spot → Type 0
+Ends q n w true a b = PinRun 180 q n w a b ⊎ PinRun 270 (q + (n - 1)) n w a b
+Ends q n w false a b = PinRun 90 q 1 n a b ⊎ PinRun 0 (q + (n * w - n)) 1 n a b
+
+abbrev pub EndsOf : Grid → ℕ → Spot → Spot → Type 0
+EndsOf g l = Ends (l * (g .n * g .w)) (g .n) (g .w) (horizontal (g .first) l)
+
+abbrev pub Pins : Grid → Spot → Spot → Type 0
+Pins g = Below (EndsOf g) (g .k)
+
+abbrev pub Inner : (ℕ → ℕ → Type 0) → Spot → Spot → Type 0
+Inner E (a-point a) (a-point b) = E a b
+Inner E (a-point a) (a-pin b) = ⊥
+Inner E (a-pin a) b = ⊥
+
+abbrev pub Edges : Grid → Spot → Spot → Type 0
+Edges g a b = Inner (Points g) a b ⊎ Pins g a b
+
+pub record LayerFits (x q n w : ℕ) (above : Bool) : Type 0 where
+  pub long : 1 ≤ n
+  pub wide : 1 ≤ w
+  pub own : q + n * w ≤ x
+  pub next : above ≡ true → q + n * w + n * w ≤ x
+
+pub record Shape (f : Frame) : Type 0 where
+  pub long : In (f .n) longestSide
+  pub wide : In (f .w) longestSide
+  pub deep : In (f .k) mostLayers
+
+pub record PointsFit (f : Frame) (x m : ℕ) : Type 0 where
+  pub shape : Shape f
+  pub size : x ≡ f .n * f .w * f .k
+  pub marks : m ≡ x
+
+pub record SideFits (p s x m first start gap count : ℕ) : Type 0 where
+  pub pins : p ≡ 360
+  pub pin-marks : s ≡ 360
+  pub places : first + count ≤ 360
+  pub step : gap ≤ x
+  pub last : start + count * gap < x + gap
+  pub marks : x ≤ m
+
+pub record EndsFit (p s x m q n w : ℕ) : Type 0 where
+  pub long : In n longestSide
+  pub wide : In w longestSide
+  pub pins : p ≡ 360
+  pub pin-marks : s ≡ 360
+  pub own : q + n * w ≤ x
+  pub marks : x ≤ m
+
+pub record Fits (f : Frame) (p s x m : ℕ) : Type 0 where
+  pub pins : p ≡ 360
+  pub pin-marks : s ≡ 360
+  pub points : PointsFit f x m

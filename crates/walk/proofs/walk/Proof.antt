@@ -1,0 +1,101 @@
+-- `walk::walk` meets its contract: each step leaves what is marked reached. The measure is the steps left.
+use Prim.Native.Nat.{ℕ}
+use mathlib.Core.Path.{_≡_, refl}
+use borrow.Author.Needs.{needs}
+use native.Mathlib.Omega.{arith}
+use lib.ListN.{length}
+use denote.Ref.{now}
+use Rattle.sweep.specs.Marks.{val, two, Grown}
+use Rattle.sweep.specs.Edges.{gridOf, Edges}
+use Rattle.sweep.proofs.Settling.{grown-none, grown-then}
+use Rattle.walk.specs.Walk.{On}
+use Rattle.walk.proofs.Steps.{small}
+use Rattle.walk.proofs.walk.Statement.{statement}
+use Rattle.walk.proofs.walk.Tie as tie
+
+abbrev Inv-loop : tie.InvT-loop
+Inv-loop p s₀ x m₀ f steps here₀ left₀ s m here left = (length s ≡ length s₀) × (length m ≡ length m₀) × On (gridOf f) here × Grown (val p x) (two s₀ m₀) (two s m) (Edges (gridOf f))
+
+abbrev μ-loop : tie.MeasureT-loop
+μ-loop p s₀ x m₀ f steps here₀ left₀ s m here left = left
+
+loop-holds : tie.Need-loop-holds Inv-loop μ-loop
+loop-holds c =
+    let pre = c .before .before .before .before .pre in
+    (refl, refl, pre .1, grown-none)
+
+sub-left : tie.Need-sub-left Inv-loop μ-loop
+sub-left c = search needs
+
+slice-read-if1 : tie.Need-slice-read-if1 Inv-loop μ-loop
+slice-read-if1 c =
+    let start = c .before .before .before .before .before .before .before in
+    let loop = c .before .before .loop in
+    omega (arith, small (start .args .f) (loop .here) (start .pre .0 .points .shape) (loop .inv .2), start .pre, loop .inv .1)
+
+same-length : tie.Need-same-length Inv-loop μ-loop
+same-length c = search needs
+
+same-length-2 : tie.Need-same-length-2 Inv-loop μ-loop
+same-length-2 c = search needs
+
+returns : tie.Need-returns Inv-loop μ-loop
+returns c = c .before .before .before .loop .inv .3
+
+same-length-3 : tie.Need-same-length-3 Inv-loop μ-loop
+same-length-3 c = search needs
+
+same-length-4 : tie.Need-same-length-4 Inv-loop μ-loop
+same-length-4 c = search needs
+
+returns-2 : tie.Need-returns-2 Inv-loop μ-loop
+returns-2 c =
+    let loop = c .before .before .before .before .before .loop in
+    loop .inv .3
+
+advance-requires : tie.Need-advance-requires Inv-loop μ-loop
+advance-requires c κs =
+    let pre = c .before .before .before .before .before .before .before .before .before .before .before .before .pre in
+    let loop = c .before .before .before .before .before .before .before .loop in
+    let if1 = c .before .before .before .before .if1 in
+    (omega (arith, pre, loop .inv .0, loop .inv .1), loop .inv .2, if1 .left)
+
+loop-less : tie.Need-loop-less Inv-loop μ-loop
+loop-less c = search needs
+
+loop-again : tie.Need-loop-again Inv-loop μ-loop
+loop-again c =
+    let advance = c .before .before .before .before .advance in
+    let loop = c .before .before .before .before .before .before .before .before .before .before .before .before .loop in
+    (search needs, search needs, advance .ensures .cell, grown-then (loop .inv .3) (advance .ensures .grown))
+
+same-length-5 : tie.Need-same-length-5 Inv-loop μ-loop
+same-length-5 c = search needs
+
+same-length-6 : tie.Need-same-length-6 Inv-loop μ-loop
+same-length-6 c = search needs
+
+returns-3 : tie.Need-returns-3 Inv-loop μ-loop
+returns-3 c = c .before .loop .inv .3
+
+pub walk-spec : {M : Type 1} → statement M
+walk-spec =
+    tie.close
+    (tie.spec
+    Inv-loop
+    μ-loop
+    loop-holds
+    sub-left
+    slice-read-if1
+    same-length
+    same-length-2
+    returns
+    same-length-3
+    same-length-4
+    returns-2
+    advance-requires
+    loop-less
+    loop-again
+    same-length-5
+    same-length-6
+    returns-3)

@@ -1,0 +1,449 @@
+// Walks from the marked pins over whatever is joined to them, for speed: a depth-first walk that keeps the way back in the marks.
+// Of a walk only this is promised: what it marks is reached. The sweeps that follow find whatever it should miss.
+//
+// A point's mark is the direction in which the walk came to it: 1 ahead and 2 back in the layer's own direction, 3 up, 4 down; 5 from
+// a pin. A pin's mark is 1 while its points wait to be walked from, and 2 afterwards.
+ghost use mathlib.Core.Path.{_≡_};
+ghost use mathlib.Core.Logic.{_≢_};
+ghost use mathlib.Core.Bool.{true, false};
+ghost use Prim.Native.Nat.{ℕ, _+_, _*_, _≤_, _<_};
+ghost use lib.ListN.{length};
+ghost use Rattle.sweep.specs.Marks.{at, a-pin, a-point, val, two, Grown};
+ghost use Rattle.sweep.specs.Edges.{gridOf, horizontal, Edges, Shape, Fits};
+ghost use Rattle.walk.specs.Walk.{On, Tip, Stepped, Claimed, Moved, Met, Walked, Ready, Pinned};
+use sweep::Frame;
+
+// Point q of the buffer, in column i, track j and layer l, all from 0, and the next direction to try there: 1 to 4, 5 for none, so
+// that the walk goes back, 6 at the walk's end.
+pub struct Cell {
+    pub q: usize,
+    pub i: usize,
+    pub j: usize,
+    pub l: usize,
+    pub d: u8,
+}
+
+// Entry b is marked d where it has no mark and holds v.
+fn claim(x: &[u8], m: &mut [u8], b: usize, v: u8, d: u8) -> bool
+    requires { ⌜ (b < length (now x)) × (b < length (now m)) ⌝ }
+    ensures { λ r. ⌜ Claimed (now (x .entry)) (now (m .entry)) (now (m .exit)) b v d r ⌝ }
+{
+    if m[b] != 0 {
+        return false;
+    }
+    if x[b] != v {
+        return false;
+    }
+    m[b] = d;
+    true
+}
+
+// The next point in the layer's own direction, or c where the grid ends; d is to be tried there.
+fn ahead(c: Cell, f: Frame, d: u8) -> Cell
+    requires { ⌜ Shape f × On (gridOf f) c ⌝ }
+    ensures { λ r. ⌜ Stepped (gridOf f) c r ⌝ }
+{
+    let n = f.n;
+    let w = f.w;
+    let first = f.first;
+    let q = c.q;
+    let i = c.i;
+    let j = c.j;
+    let l = c.l;
+    if sweep::is_horizontal(l, first) {
+        if i + 1 < n {
+            return Cell {
+                q: q + 1,
+                i: i + 1,
+                j,
+                l,
+                d,
+            };
+        }
+        return Cell { q, i, j, l, d };
+    }
+    if j + 1 < w {
+        return Cell {
+            q: q + n,
+            i,
+            j: j + 1,
+            l,
+            d,
+        };
+    }
+    Cell { q, i, j, l, d }
+}
+
+// The point before c in the layer's own direction, or c where the grid ends.
+fn behind(c: Cell, f: Frame, d: u8) -> Cell
+    requires { ⌜ Shape f × On (gridOf f) c ⌝ }
+    ensures { λ r. ⌜ Stepped (gridOf f) c r ⌝ }
+{
+    let n = f.n;
+    let first = f.first;
+    let q = c.q;
+    let i = c.i;
+    let j = c.j;
+    let l = c.l;
+    if sweep::is_horizontal(l, first) {
+        if 0 < i {
+            return Cell {
+                q: q - 1,
+                i: i - 1,
+                j,
+                l,
+                d,
+            };
+        }
+        return Cell { q, i, j, l, d };
+    }
+    if 0 < j {
+        return Cell {
+            q: q - n,
+            i,
+            j: j - 1,
+            l,
+            d,
+        };
+    }
+    Cell { q, i, j, l, d }
+}
+
+// The point on the next layer, or c where the grid ends.
+fn above(c: Cell, f: Frame, d: u8) -> Cell
+    requires { ⌜ Shape f × On (gridOf f) c ⌝ }
+    ensures { λ r. ⌜ Stepped (gridOf f) c r ⌝ }
+{
+    let area = f.n * f.w;
+    let k = f.k;
+    let q = c.q;
+    let i = c.i;
+    let j = c.j;
+    let l = c.l;
+    if l + 1 < k {
+        return Cell {
+            q: q + area,
+            i,
+            j,
+            l: l + 1,
+            d,
+        };
+    }
+    Cell { q, i, j, l, d }
+}
+
+// The point on the layer before, or c where the grid ends.
+fn below(c: Cell, f: Frame, d: u8) -> Cell
+    requires { ⌜ Shape f × On (gridOf f) c ⌝ }
+    ensures { λ r. ⌜ Stepped (gridOf f) c r ⌝ }
+{
+    let area = f.n * f.w;
+    let q = c.q;
+    let i = c.i;
+    let j = c.j;
+    let l = c.l;
+    if 0 < l {
+        return Cell {
+            q: q - area,
+            i,
+            j,
+            l: l - 1,
+            d,
+        };
+    }
+    Cell { q, i, j, l, d }
+}
+
+// Back to where the walk came from, with the next direction to try there; the end where it began.
+fn retreat(c: Cell, mark: u8, f: Frame) -> Cell
+    requires { ⌜ Shape f × On (gridOf f) c ⌝ }
+    ensures { λ r. ⌜ Stepped (gridOf f) c r ⌝ }
+{
+    if mark == 1 {
+        return behind(c, f, 2);
+    }
+    if mark == 2 {
+        return ahead(c, f, 3);
+    }
+    if mark == 3 {
+        return below(c, f, 4);
+    }
+    if mark == 4 {
+        return above(c, f, 5);
+    }
+    Cell {
+        q: c.q,
+        i: c.i,
+        j: c.j,
+        l: c.l,
+        d: 6,
+    }
+}
+
+// On to the point below where it can be marked, or else back.
+fn try_below(x: &[u8], m: &mut [u8], c: Cell, v: u8, f: Frame) -> Cell
+    requires { ⌜ Ready f (now x) (now m) c v ⌝ }
+    ensures { λ r. ⌜ Moved (gridOf f) (now (x .entry)) (now (m .entry)) (now (m .exit)) r ⌝ }
+{
+    let to = below(c, f, 1);
+    let b = to.q;
+    if claim(x, m, b, v, 4) {
+        return to;
+    }
+    let q = c.q;
+    retreat(c, m[q], f)
+}
+
+// The same with the point above tried first.
+fn try_above(x: &[u8], m: &mut [u8], c: Cell, v: u8, f: Frame) -> Cell
+    requires { ⌜ Ready f (now x) (now m) c v ⌝ }
+    ensures { λ r. ⌜ Moved (gridOf f) (now (x .entry)) (now (m .entry)) (now (m .exit)) r ⌝ }
+{
+    let to = above(c, f, 1);
+    let b = to.q;
+    if claim(x, m, b, v, 3) {
+        return to;
+    }
+    try_below(x, m, c, v, f)
+}
+
+fn try_behind(x: &[u8], m: &mut [u8], c: Cell, v: u8, f: Frame) -> Cell
+    requires { ⌜ Ready f (now x) (now m) c v ⌝ }
+    ensures { λ r. ⌜ Moved (gridOf f) (now (x .entry)) (now (m .entry)) (now (m .exit)) r ⌝ }
+{
+    let to = behind(c, f, 1);
+    let b = to.q;
+    if claim(x, m, b, v, 2) {
+        return to;
+    }
+    try_above(x, m, c, v, f)
+}
+
+fn try_ahead(x: &[u8], m: &mut [u8], c: Cell, v: u8, f: Frame) -> Cell
+    requires { ⌜ Ready f (now x) (now m) c v ⌝ }
+    ensures { λ r. ⌜ Moved (gridOf f) (now (x .entry)) (now (m .entry)) (now (m .exit)) r ⌝ }
+{
+    let to = ahead(c, f, 1);
+    let b = to.q;
+    if claim(x, m, b, v, 1) {
+        return to;
+    }
+    try_behind(x, m, c, v, f)
+}
+
+// Pin a is marked, to be walked from, where the point at hand touches it and it holds v.
+fn claim_if(is: bool, p: &[u8], s: &mut [u8], a: usize, v: u8) -> bool
+    requires { ⌜ (a < length (now p)) × (a < length (now s)) ⌝ }
+    ensures { λ r. ⌜ Claimed (now (p .entry)) (now (s .entry)) (now (s .exit)) a v 1 r × (r ≡ true → is ≡ true) ⌝ }
+{
+    if is {
+        return claim(p, s, a, v, 1);
+    }
+    false
+}
+
+// The pins that cell c touches.
+fn meet(p: &[u8], s: &mut [u8], c: Cell, v: u8, f: Frame)
+    requires { ⌜ Shape f × On (gridOf f) c × (length (now p) ≡ 360) × (length (now s) ≡ 360) ⌝ }
+    ensures { λ r. ⌜ Met (gridOf f) (now (p .entry)) (now (s .entry)) (now (s .exit)) (c .q) v ⌝ }
+{
+    let n = f.n;
+    let w = f.w;
+    let first = f.first;
+    let i = c.i;
+    let j = c.j;
+    let l = c.l;
+    if sweep::is_horizontal(l, first) {
+        claim_if(i == 0, p, s, 180 + j, v);
+        claim_if(i + 1 == n, p, s, 270 + j, v);
+        return;
+    }
+    claim_if(j == 0, p, s, 90 + i, v);
+    claim_if(j + 1 == w, p, s, i, v);
+}
+
+// One step of the walk: on, where a direction is left to try, or else back.
+fn advance(p: &[u8], s: &mut [u8], x: &[u8], m: &mut [u8], c: Cell, f: Frame) -> Cell
+    requires { ⌜ Fits f (length (now p)) (length (now s)) (length (now x)) (length (now m)) × On (gridOf f) c × (at (now m) (c .q) ≢ 0) ⌝ }
+    ensures { λ r. ⌜ Walked (gridOf f) (now (p .entry)) (now (s .entry)) (now (s .exit)) (now (x .entry)) (now (m .entry)) (now (m .exit)) r ⌝ }
+{
+    let q = c.q;
+    let d = c.d;
+    let v = x[q];
+    if d == 1 {
+        meet(p, s, c, v, f);
+        return try_ahead(x, m, c, v, f);
+    }
+    if d == 2 {
+        return try_behind(x, m, c, v, f);
+    }
+    if d == 3 {
+        return try_above(x, m, c, v, f);
+    }
+    if d == 4 {
+        return try_below(x, m, c, v, f);
+    }
+    retreat(c, m[q], f)
+}
+
+// Steps from cell c until the walk is back there, at most so many.
+fn walk(p: &[u8], s: &mut [u8], x: &[u8], m: &mut [u8], c: Cell, f: Frame, steps: usize)
+    requires { ⌜ Fits f (length (now p)) (length (now s)) (length (now x)) (length (now m)) × On (gridOf f) c ⌝ }
+    ensures { λ r. ⌜ Grown (val (now (p .entry)) (now (x .entry))) (two (now (s .entry)) (now (m .entry))) (two (now (s .exit)) (now (m .exit))) (Edges (gridOf f)) ⌝ }
+{
+    let mut here = c;
+    let mut left = steps;
+    while 0 < left {
+        left -= 1;
+        let q = here.q;
+        if m[q] == 0 {
+            return;
+        }
+        if here.d == 6 {
+            return;
+        }
+        here = advance(p, s, x, m, here, f);
+    }
+}
+
+// The points that a pin touches: in column i and track j, on the horizontal layers (flat) or the vertical ones.
+struct Touch {
+    i: usize,
+    j: usize,
+    flat: bool,
+}
+
+fn touch_of(a: usize, f: Frame) -> Touch
+    requires { ⌜ Shape f × (a < 360) ⌝ }
+    ensures { λ r. ⌜ Tip (gridOf f) a (r .i) (r .j) (r .flat) ⌝ }
+{
+    if a < 90 {
+        return Touch {
+            i: a,
+            j: f.w - 1,
+            flat: false,
+        };
+    }
+    if a < 180 {
+        return Touch {
+            i: a - 90,
+            j: 0,
+            flat: false,
+        };
+    }
+    if a < 270 {
+        return Touch {
+            i: 0,
+            j: a - 180,
+            flat: true,
+        };
+    }
+    Touch {
+        i: f.n - 1,
+        j: a - 270,
+        flat: true,
+    }
+}
+
+// Whether layer l + 1 has the direction asked for.
+fn is_of(l: usize, first: bool, flat: bool) -> bool
+    ensures { λ r. ⌜ (r ≡ true → horizontal first l ≡ flat) ⌝ }
+{
+    if sweep::is_horizontal(l, first) {
+        return flat;
+    }
+    if flat {
+        return false;
+    }
+    true
+}
+
+// A walk from cell c, which the marked pin a touches on layers of one direction, where c has none of a walk's marks yet.
+fn begin(p: &[u8], s: &mut [u8], x: &[u8], m: &mut [u8], a: usize, c: Cell, flat: bool, f: Frame)
+    requires { ⌜ Fits f (length (now p)) (length (now s)) (length (now x)) (length (now m)) × Pinned (gridOf f) (now s) a c flat ⌝ }
+    ensures { λ r. ⌜ Grown (val (now (p .entry)) (now (x .entry))) (two (now (s .entry)) (now (m .entry))) (two (now (s .exit)) (now (m .exit))) (Edges (gridOf f)) ⌝ }
+{
+    let l = c.l;
+    let q = c.q;
+    let first = f.first;
+    if is_of(l, first, flat) {
+        let v = p[a];
+        if claim(x, m, q, v, 5) {
+            let steps = x.len() + x.len();
+            return walk(p, s, x, m, c, f, steps);
+        }
+    }
+}
+
+// Walks from all points that the marked pin a touches, in column i and track j.
+fn walk_from(
+    p: &[u8],
+    s: &mut [u8],
+    x: &[u8],
+    m: &mut [u8],
+    a: usize,
+    i: usize,
+    j: usize,
+    flat: bool,
+    f: Frame,
+)
+    requires { ⌜ Fits f (length (now p)) (length (now s)) (length (now x)) (length (now m)) × (a < 360) × (at (now s) a ≢ 0) × (i < f .n) × (j < f .w) × Tip (gridOf f) a i j flat ⌝ }
+    ensures { λ r. ⌜ Grown (val (now (p .entry)) (now (x .entry))) (two (now (s .entry)) (now (m .entry))) (two (now (s .exit)) (now (m .exit))) (Edges (gridOf f)) ⌝ }
+{
+    let k = f.k;
+    let area = f.n * f.w;
+    let mut q = j * f.n + i;
+    for l in 0..k {
+        begin(p, s, x, m, a, Cell { q, i, j, l, d: 1 }, flat, f);
+        q += area;
+    }
+}
+
+// Where pin a waits: walks from its points. 1 for a pin that waited, else 0.
+fn take_up(p: &[u8], s: &mut [u8], x: &[u8], m: &mut [u8], a: usize, f: Frame) -> usize
+    requires { ⌜ Fits f (length (now p)) (length (now s)) (length (now x)) (length (now m)) × (a < 360) ⌝ }
+    ensures { λ r. ⌜ Grown (val (now (p .entry)) (now (x .entry))) (two (now (s .entry)) (now (m .entry))) (two (now (s .exit)) (now (m .exit))) (Edges (gridOf f)) × (r ≤ 1) ⌝ }
+{
+    if s[a] != 1 {
+        return 0;
+    }
+    s[a] = 2;
+    let t = touch_of(a, f);
+    let i = t.i;
+    let j = t.j;
+    let flat = t.flat;
+    if f.n <= i {
+        return 1;
+    }
+    if f.w <= j {
+        return 1;
+    }
+    walk_from(p, s, x, m, a, i, j, flat, f);
+    1
+}
+
+// Takes up each waiting pin once. How many waited.
+fn take_up_all(p: &[u8], s: &mut [u8], x: &[u8], m: &mut [u8], f: Frame) -> usize
+    requires { ⌜ Fits f (length (now p)) (length (now s)) (length (now x)) (length (now m)) ⌝ }
+    ensures { λ r. ⌜ Grown (val (now (p .entry)) (now (x .entry))) (two (now (s .entry)) (now (m .entry))) (two (now (s .exit)) (now (m .exit))) (Edges (gridOf f)) ⌝ }
+{
+    let mut waited: usize = 0;
+    for a in 0..360 {
+        waited += take_up(p, s, x, m, a, f);
+    }
+    waited
+}
+
+// Walks from all marked pins, and from those that the walks reach. A pin waits once, so 360 rounds are enough.
+pub fn spread(p: &[u8], s: &mut [u8], x: &[u8], m: &mut [u8], f: Frame)
+    requires { ⌜ Fits f (length (now p)) (length (now s)) (length (now x)) (length (now m)) ⌝ }
+    ensures { λ r. ⌜ Grown (val (now (p .entry)) (now (x .entry))) (two (now (s .entry)) (now (m .entry))) (two (now (s .exit)) (now (m .exit))) (Edges (gridOf f)) ⌝ }
+{
+    let mut rounds: usize = 360;
+    while 0 < rounds {
+        rounds -= 1;
+        if take_up_all(p, s, x, m, f) == 0 {
+            return;
+        }
+    }
+}
