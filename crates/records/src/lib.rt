@@ -2,6 +2,7 @@
 ghost use Prim.Native.Nat.{_≤_, _<_};
 ghost use mathlib.Core.Path.{_≡_};
 ghost use lib.ListN.{length};
+ghost use Rattle.records.specs.Records.{recordEnd};
 
 fn wide(x: u8) -> usize
     ensures { λ r. ⌜ (r ≡ x) × (r < 256) ⌝ }
@@ -12,7 +13,7 @@ fn wide(x: u8) -> usize
 // Where the record that starts at `at` ends; `at` itself where it is not whole. (For our own crates.)
 pub fn record_end(s: &[u8], at: usize) -> usize
     requires { ⌜ at ≤ length (now s) ⌝ }
-    ensures { λ r. ⌜ r ≤ length (now (s .entry)) ⌝ }
+    ensures { λ r. ⌜ (r ≡ recordEnd (now (s .entry)) at) × (r ≤ length (now (s .entry))) ⌝ }
 {
     let left = s.len() - at;
     if left < 2 {

@@ -8,7 +8,8 @@
 --   trunkLine words a
 --                    the line of a row or a channel, which begins with words; "row length 6 nets 3 across 2 tracks 2 layers 2"; "Channels print channel likewise"
 --   refusedLine a    "refused 9 at 1"
---   lineOf s         the line of a ticket; "Each line ends in one newline"
+--   lineFor a, lineOf s
+--                    the line of an answer and of a ticket; "Each line ends in one newline"
 --   longestLine      no line is longer
 --   lineOver l out   a buffer with the line written to its front; a buffer that is too short is left as it is
 --   Lined s before after r

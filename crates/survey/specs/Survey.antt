@@ -4,8 +4,10 @@
 --   layersFor kind n b   the layers that Lay uses, by kind, n and byte 2; "Row: 2h layers", "Channel: 2h + 1 layers", "Box: exactly 2q + 4 layers"
 --   trunkFigures h ..    the figures of a row or a channel: "w = the larger of 1 and across/h rounded up"; "Up and the floor belong to boxes only"
 --   boxFigures n w ..    those of a box: its own width; "a = across/w rounded up and b = up/n rounded up", floor
---   figuresOf t          the figures of a reading; byte 2 is a box's w, and otherwise h
---   surveyed t           Survey's answer to a reading: its figures, or "Those of Read" with "the answer's other fields .. 0"
+--   figuresIn kind g p, figuresOf t
+--                        the figures by kind, and those of a reading; byte 2 is a box's w, and otherwise h, and so is the grid's width here
+--   answered a f, refused k p, surveyed t
+--                        Survey's answer to a reading: its figures, or "Those of Read" with "the answer's other fields .. 0"
 --   surveyOf s           Survey's answer to a ticket
 use Prim.Native.Nat.{ℕ, _+_, _*_, min, max}
 use mathlib.Core.Bool.{cond}

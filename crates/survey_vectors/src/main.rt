@@ -1,10 +1,11 @@
 // Prints Survey's line of each stored ticket.
 use libc::STDIN_FILENO;
 use libc::STDOUT_FILENO;
+use survey::LONGEST_LINE;
 use survey::survey_line;
 
 fn show(ticket: &[u8]) {
-    let mut out = [0u8; 192];
+    let mut out = [0u8; LONGEST_LINE];
     let answer = survey_line(ticket, &mut out);
     let length = answer.length;
     io::write_all(STDOUT_FILENO, &out[..length]);

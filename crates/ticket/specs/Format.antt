@@ -9,13 +9,14 @@
 --   standing s from p    how many of the places 1 to p have a pin; "The number of standing bits of a map"
 --   mapBytes p           "p places .. in p/8 bytes, rounded up"
 --   goodMap s from p     "Spare bits are zero, and at least one bit stands": the map's bytes have no standing bits but those of its p places
---   mapCount s from p    how many places of a good map have a pin, 0 for one that is not good
+--   mapCount s from p    not part of the definition, but what map_count answers: how many places of a good map have a pin, 0 for one that is not good
 --   pinNet s on from p a the net of place a: "one net number, 1 to 180, for each standing bit, in rising order of place", after the map; 0 where the
 --                        place is empty or the side does not stand (on)
 --   listed f i k         f i, f (i + 1), .., k of them
 --   sideNets s on from p the nets of a side's places as 90 numbers
 --   pinsIn ps            the four lists as the grid's pins
---   pinCount p m         how many pins hold net m
+--   pinCountOn p m s, pinCount p m
+--                        how many pins hold net m, on side s and on all
 --   netCount p           "the number of nets": how many have a pin
 --   least t top          the smallest of 1 to top that passes the test t, 0 where none does
 --   loneNet p            "a net with one pin (the smallest such net)", 0 where there is none
