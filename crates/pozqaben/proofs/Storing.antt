@@ -32,3 +32,7 @@ unanswered s d short = record { room = sym (lt-leb (length s) (length d) short);
 pub answered : {s t d a : List ℕ} → t ≡ s → length s ≤ length d → a ≡ t ++ drop (length t) d → Answered s d true a
 answered {s} {t} {d} {a} e fits kept =
     record { room = sym (le-leb (length s) (length d) fits); stored = rw e at kept }
+
+-- a call does not return both
+pub not-both : {A : Type 0} → false ≡ true → A
+not-both e = let z : _≡_ {A = ℕ} 0 1 = cc in absurd (omega arith)

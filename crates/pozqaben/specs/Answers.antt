@@ -1,7 +1,10 @@
 -- What an exported call writes into its caller's answer array and what it returns. "number, place, kind, n, byte 2, nets" and the like are the orders of
 -- fields that are fixed for the exports.
 --
+--   bit b                      a yes is 1, a no is 0
 --   readEntries a              Read's answer: number, place, kind, n, byte 2, nets
+--   surveyEntries a            Survey's answer: number, place, kind, n, w, nets, across, up, layers, floor
+--   layEntries a               Lay's answer: number, place, kind, n, w, k, first, nets, across, up, floor
 --   viewed x n w k l           the layer is not refused
 --   viewStart, viewLength      where Layer view's part starts in the wiring, and its length; 0 and 0 when refused
 --   viewEntries x n w k l      Layer view's answer: number, place, start, length
@@ -17,9 +20,23 @@ use Rattle.grid.specs.Grid.{upright}
 use Rattle.grid.specs.Legal.{index}
 use Rattle.grid.specs.View.{viewRefusal}
 use Rattle.ticket.specs.declared.ReadAnswer.{ReadAnswer}
+use Rattle.survey.specs.declared.SurveyAnswer.{SurveyAnswer}
+use Rattle.router.specs.declared.LayAnswer.{LayAnswer}
+
+abbrev pub bit : Bool → ℕ
+bit b = cond b 1 0
 
 abbrev pub readEntries : ReadAnswer → List ℕ
 readEntries a = a .number ∷ a .place ∷ a .kind ∷ a .n .0 ∷ a .byte2 ∷ a .nets ∷ []
+
+abbrev pub surveyEntries : SurveyAnswer → List ℕ
+surveyEntries a =
+    a .number ∷ a .place ∷ a .kind ∷ a .n .0 ∷ a .w .0 ∷ a .nets ∷ a .across ∷ a .up ∷ a .layers .0 ∷ a .floor .0 ∷ []
+
+abbrev pub layEntries : LayAnswer → List ℕ
+layEntries a =
+    a .number
+    ∷ a .place ∷ a .kind ∷ a .n .0 ∷ a .w .0 ∷ a .k .0 ∷ bit (a .first) ∷ a .nets ∷ a .across ∷ a .up ∷ a .floor .0 ∷ []
 
 abbrev pub viewed : List ℕ → ℕ → ℕ → ℕ → ℕ → Bool
 viewed x n w k l = eqb (viewRefusal x n w k l .number) 0

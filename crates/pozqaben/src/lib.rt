@@ -3,14 +3,20 @@
 use grid::Column;
 use grid::Layer;
 use grid::Track;
+use router::LayAnswer;
+use survey::SurveyAnswer;
 use ticket::ReadAnswer;
 ghost use mathlib.Core.Path.{_≡_};
+ghost use mathlib.Core.Bool.{true, false};
 ghost use mathlib.Core.List.{_++_};
 ghost use Prim.Native.Nat.{_≤_};
 ghost use lib.ListN.{length, take, drop};
 ghost use Rattle.grid.specs.View.{viewPart};
 ghost use Rattle.ticket.specs.Read.{readOf};
-ghost use Rattle.pozqaben.specs.Answers.{readEntries, viewStart, viewLength, viewEntries, Answered};
+ghost use Rattle.survey.specs.Survey.{surveyOf};
+ghost use Rattle.router.specs.Lay.{layOf};
+ghost use Rattle.pozqaben.specs.Lays.{Lays};
+ghost use Rattle.pozqaben.specs.Answers.{bit, readEntries, surveyEntries, layEntries, viewStart, viewLength, viewEntries, Answered};
 
 // Stores the entries at the array's start.
 fn put(answer: &mut [u64], entries: &[u64])
@@ -44,6 +50,75 @@ pub extern "C" fn pozqaben_read(ticket: &[u8], answer: &mut [u64]) -> bool
         return false;
     }
     let entries = read_entries(ticket::read(ticket));
+    put(answer, &entries);
+    true
+}
+
+fn survey_entries(a: SurveyAnswer) -> [u64; 10]
+    ensures { λ r. ⌜ r ≡ surveyEntries a ⌝ }
+{
+    [
+        a.number as u64,
+        a.place as u64,
+        a.kind as u64,
+        a.n.0 as u64,
+        a.w.0 as u64,
+        a.nets as u64,
+        a.across as u64,
+        a.up as u64,
+        a.layers.0 as u64,
+        a.floor.0 as u64,
+    ]
+}
+
+// Survey: number, place, kind, n, w, nets, across, up, layers, floor.
+#[no_mangle]
+pub extern "C" fn pozqaben_survey(ticket: &[u8], answer: &mut [u64]) -> bool
+    ensures { λ r. ⌜ Answered (surveyEntries (surveyOf (now (ticket .entry)))) (now (answer .entry)) r (now (answer .exit)) ⌝ }
+{
+    if answer.len() < 10 {
+        return false;
+    }
+    let entries = survey_entries(survey::survey(ticket));
+    put(answer, &entries);
+    true
+}
+
+fn bit(b: bool) -> u64
+    ensures { λ r. ⌜ r ≡ bit b ⌝ }
+{
+    if b { 1 } else { 0 }
+}
+
+fn lay_entries(a: LayAnswer) -> [u64; 11]
+    ensures { λ r. ⌜ r ≡ layEntries a ⌝ }
+{
+    [
+        a.number as u64,
+        a.place as u64,
+        a.kind as u64,
+        a.n.0 as u64,
+        a.w.0 as u64,
+        a.k.0 as u64,
+        bit(a.first),
+        a.nets as u64,
+        a.across as u64,
+        a.up as u64,
+        a.floor.0 as u64,
+    ]
+}
+
+// Lay: number, place, kind, n, w, k, first, nets, across, up, floor.
+#[no_mangle]
+pub extern "C" fn pozqaben_lay(ticket: &[u8], wiring: &mut [u8], answer: &mut [u64]) -> bool
+    ensures answer { λ r. ⌜ Answered (layEntries (layOf (now (ticket .entry)) (length (now (wiring .entry))))) (now (answer .entry)) r (now (answer .exit)) ⌝ }
+    ensures short { λ r. ⌜ (r ≡ false → now (wiring .exit) ≡ now (wiring .entry)) ⌝ }
+    ensures lays { λ r. ⌜ (r ≡ true → Lays (now (ticket .entry)) (layOf (now (ticket .entry)) (length (now (wiring .entry)))) (now (wiring .entry)) (now (wiring .exit))) ⌝ }
+{
+    if answer.len() < 11 {
+        return false;
+    }
+    let entries = lay_entries(router::lay(ticket, wiring));
     put(answer, &entries);
     true
 }
