@@ -3,7 +3,6 @@ use mathlib.Core.Path.{refl, sym, ap, _∙_}
 use borrow.Author.Needs.{needs}
 use Rattle.pozqaben.specs.Answers.{layEntries}
 use Rattle.pozqaben.proofs.Storing.{answered, unanswered, not-both}
-use Rattle.pozqaben.proofs.Promise.{lays}
 use Rattle.pozqaben.proofs.pozqaben_lay.Statement.{statement}
 use Rattle.pozqaben.proofs.pozqaben_lay.Tie as tie
 
@@ -29,7 +28,10 @@ same-length-2 : tie.Need-same-length-2
 same-length-2 c = search needs
 
 returns-2 : tie.Need-returns-2
-returns-2 c = (answered (c .before .before .before .before .before .lay-entries .ensures ∙ ap layEntries (c .before .before .before .before .before .before .before .before .lay .ensures .0)) (c .before .before .before .before .before .before .before .before .before .before .if1 .left) (c .before .before .put .ensures), (λ e. not-both (sym e), λ _. lays (c .before .before .before .before .before .before .before .before .lay .ensures .0) (c .before .before .before .before .before .before .before .before .lay .ensures .1 .0) (c .before .before .before .before .before .before .before .before .lay .ensures .1 .1 .0) (c .before .before .before .before .before .before .before .before .lay .ensures .1 .1 .1 .0) (c .before .before .before .before .before .before .before .before .lay .ensures .1 .1 .1 .1)))
+returns-2 c = let l = c .before .before .before .before .before .before .before .before .lay .ensures in (
+  answered (c .before .before .before .before .before .lay-entries .ensures ∙ ap layEntries (l .0)) (c .before .before .before .before .before .before .before .before .before .before .if1 .left) (c .before .before .put .ensures),
+  (λ e. not-both (sym e), λ _. rw (← l .0) (record { untouched = l .1 .0; laid = l .1 .1 .0; narrowest = l .1 .1 .1 .0; lowest = l .1 .1 .1 .1 })),
+)
 
 pub pozqaben-lay-spec : {M : Type 1} → statement M
 pozqaben-lay-spec =
