@@ -12,6 +12,8 @@
 //! assert_eq!(refusal.to_string(), "refused 9 at 1: net 1 has one pin only");
 //! ```
 
+use std::fmt;
+
 pub mod raw;
 mod refusal;
 
@@ -47,6 +49,18 @@ pub struct Survey {
     pub up: usize,
     pub layers: usize,
     pub floor: usize,
+}
+
+/// The line that the program prints.
+impl fmt::Display for Survey {
+    fn fmt(&self, f: &mut fmt::Formatter) -> fmt::Result {
+        let Survey { kind, n, w, nets, across, up, layers, floor } = self;
+        match kind {
+            Kind::Row => write!(f, "row length {n} nets {nets} across {across} tracks {w} layers {layers}"),
+            Kind::Channel => write!(f, "channel length {n} nets {nets} across {across} tracks {w} layers {layers}"),
+            Kind::Box => write!(f, "box length {n} width {w} nets {nets} across {across} up {up} layers {layers} floor {floor}"),
+        }
+    }
 }
 
 /// What `lay` says of the wiring that it laid.

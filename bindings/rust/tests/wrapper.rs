@@ -24,6 +24,14 @@ fn typed_answers() {
     assert_eq!(check(&tall, 2, laid.k, true, &wiring), Ok(()));
 }
 
+#[test]
+fn survey_lines() {
+    for (name, t) in DOCUMENT {
+        let line = survey(t).map_or_else(|r| format!("refused {} at {}", r.number, r.place), |s| s.to_string());
+        assert_eq!(line + "\n", slow::survey::line(t), "{name}");
+    }
+}
+
 /// Each number is met, and its text names number, place and meaning.
 #[test]
 fn refusals() {

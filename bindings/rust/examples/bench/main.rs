@@ -9,21 +9,38 @@ use flood::Flood;
 use pozqaben::{check_with, lay_into, read, survey};
 use slow::tickets::{of_shape, Numbers};
 use std::hint::black_box;
-use std::time::{Duration, Instant};
 
-/// Seconds that a call takes: the best of several batches, each long enough to be timed.
+#[repr(C)]
+struct Time {
+    seconds: i64,
+    nanoseconds: i64,
+}
+
+extern "C" {
+    fn clock_gettime(clock: i32, time: *mut Time) -> i32;
+}
+
+/// Processor time that this thread has had, so that other work on the machine does not count.
+fn processor_seconds() -> f64 {
+    const THREAD_CLOCK: i32 = 3;
+    let mut time = Time { seconds: 0, nanoseconds: 0 };
+    // Sound: the clock's number is Linux's, and the struct is C's timespec on 64-bit Linux.
+    unsafe { clock_gettime(THREAD_CLOCK, &mut time) };
+    time.seconds as f64 + time.nanoseconds as f64 * 1e-9
+}
+
+/// Seconds that a call takes: the best of many short batches, the first of which only warm up.
 fn seconds(mut call: impl FnMut()) -> f64 {
-    let mut times = 1;
-    let batch = |times: usize, call: &mut dyn FnMut()| {
-        let start = Instant::now();
+    let mut batch = |times: usize| {
+        let start = processor_seconds();
         (0..times).for_each(|_| call());
-        start.elapsed()
+        (processor_seconds() - start) / times as f64
     };
-    while batch(times, &mut call) < Duration::from_millis(20) {
+    let mut times = 1;
+    while batch(times) * (times as f64) < 1e-3 {
         times *= 2;
     }
-    let best = (0..9).map(|_| batch(times, &mut call)).min().expect("nine batches");
-    best.as_secs_f64() / times as f64
+    (0..25).map(|_| batch(times)).fold(f64::INFINITY, f64::min)
 }
 
 fn lay_table(r: &mut Numbers) {
