@@ -1,6 +1,6 @@
 -- An array whose first entries have been stored, one by one; and the two ways in which a call answers.
 use Prim.Native.Nat.{ℕ, _+_, _≤_, _<_}
-use mathlib.Core.Path.{_≡_, refl, sym}
+use mathlib.Core.Path.{_≡_, refl, sym, ap, _∙_}
 use mathlib.Core.Bool.{true, false}
 use mathlib.Core.List.{List, _++_}
 use native.Mathlib.Nat.{zero-add}
@@ -9,7 +9,8 @@ use native.Mathlib.Omega.{arith}
 use lib.ListN.{length, getD, set, take, drop}
 use lib.Seq.{paste-suc, length-paste, take-length}
 use borrow.Author.Tests.{le-leb, lt-leb}
-use Rattle.pozqaben.specs.Answers.{Answered}
+use Rattle.checker.specs.declared.CheckAnswer.{CheckAnswer}
+use Rattle.pozqaben.specs.Answers.{checkEntries, checkTold, Answered}
 
 -- the first i of s, and past those what d has
 abbrev pub front : List ℕ → List ℕ → ℕ → List ℕ
@@ -36,3 +37,7 @@ answered {s} {t} {d} {a} e fits kept =
 -- a call does not return both
 pub not-both : {A : Type 0} → false ≡ true → A
 not-both e = let z : _≡_ {A = ℕ} 0 1 = cc in absurd (omega arith)
+
+-- the two entries that Check stored tell its answer
+pub told : (d : List ℕ) {a : CheckAnswer} {t s : List ℕ} → t ≡ checkEntries a → s ≡ t ++ drop (length t) d → a ≡ checkTold s
+told d e kept = sym (ap checkTold (kept ∙ ap (λ (l : List ℕ). l ++ drop (length l) d) e))

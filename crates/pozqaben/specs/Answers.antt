@@ -5,6 +5,8 @@
 --   readEntries a              Read's answer: number, place, kind, n, byte 2, nets
 --   surveyEntries a            Survey's answer: number, place, kind, n, w, nets, across, up, layers, floor
 --   layEntries a               Lay's answer: number, place, kind, n, w, k, first, nets, across, up, floor
+--   checkEntries a             Check's answer: number, place
+--   checkTold array            the answer that these two entries tell
 --   viewed x n w k l           the layer is not refused
 --   viewStart, viewLength      where Layer view's part starts in the wiring, and its length; 0 and 0 when refused
 --   viewEntries x n w k l      Layer view's answer: number, place, start, length
@@ -15,13 +17,14 @@ use mathlib.Core.Path.{_≡_}
 use mathlib.Core.Bool.{Bool, cond}
 use mathlib.Core.List.{List, [], _∷_, _++_}
 use lib.Dec.{eqb, leb}
-use lib.ListN.{length, drop}
+use lib.ListN.{length, getD, drop}
 use Rattle.grid.specs.Grid.{upright}
 use Rattle.grid.specs.Legal.{index}
 use Rattle.grid.specs.View.{viewRefusal}
 use Rattle.ticket.specs.declared.ReadAnswer.{ReadAnswer}
 use Rattle.survey.specs.declared.SurveyAnswer.{SurveyAnswer}
 use Rattle.router.specs.declared.LayAnswer.{LayAnswer}
+use Rattle.checker.specs.declared.CheckAnswer.{CheckAnswer}
 
 abbrev pub bit : Bool → ℕ
 bit b = cond b 1 0
@@ -37,6 +40,12 @@ abbrev pub layEntries : LayAnswer → List ℕ
 layEntries a =
     a .number
     ∷ a .place ∷ a .kind ∷ a .n .0 ∷ a .w .0 ∷ a .k .0 ∷ bit (a .first) ∷ a .nets ∷ a .across ∷ a .up ∷ a .floor .0 ∷ []
+
+abbrev pub checkEntries : CheckAnswer → List ℕ
+checkEntries a = a .number ∷ a .place ∷ []
+
+abbrev pub checkTold : List ℕ → CheckAnswer
+checkTold array = record { number = getD array 0 0; place = getD array 1 0 }
 
 abbrev pub viewed : List ℕ → ℕ → ℕ → ℕ → ℕ → Bool
 viewed x n w k l = eqb (viewRefusal x n w k l .number) 0

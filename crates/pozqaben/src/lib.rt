@@ -1,5 +1,6 @@
 // The public calls, exported for C and Rust. Each writes its answer, number by number, into an array that the caller lends,
 // and returns whether the array had the room; where it had not, nothing at all is altered.
+use checker::CheckAnswer;
 use grid::Column;
 use grid::Layer;
 use grid::Track;
@@ -12,11 +13,12 @@ ghost use mathlib.Core.List.{_++_};
 ghost use Prim.Native.Nat.{_≤_};
 ghost use lib.ListN.{length, take, drop};
 ghost use Rattle.grid.specs.View.{viewPart};
-ghost use Rattle.ticket.specs.Read.{readOf};
+ghost use Rattle.ticket.specs.Read.{ticketOf, readOf};
 ghost use Rattle.survey.specs.Survey.{surveyOf};
 ghost use Rattle.router.specs.Lay.{layOf};
+ghost use Rattle.checker.specs.Check.{Checked};
 ghost use Rattle.pozqaben.specs.Lays.{Lays};
-ghost use Rattle.pozqaben.specs.Answers.{bit, readEntries, surveyEntries, layEntries, viewStart, viewLength, viewEntries, Answered};
+ghost use Rattle.pozqaben.specs.Answers.{bit, readEntries, surveyEntries, layEntries, checkEntries, checkTold, viewStart, viewLength, viewEntries, Answered};
 
 // Stores the entries at the array's start.
 fn put(answer: &mut [u64], entries: &[u64])
@@ -119,6 +121,35 @@ pub extern "C" fn pozqaben_lay(ticket: &[u8], wiring: &mut [u8], answer: &mut [u
         return false;
     }
     let entries = lay_entries(router::lay(ticket, wiring));
+    put(answer, &entries);
+    true
+}
+
+fn check_entries(a: CheckAnswer) -> [u64; 2]
+    ensures { λ r. ⌜ r ≡ checkEntries a ⌝ }
+{
+    [a.number as u64, a.place as u64]
+}
+
+// Check: number, place.
+#[no_mangle]
+pub extern "C" fn pozqaben_check(
+    ticket: &[u8],
+    w: usize,
+    k: usize,
+    first: bool,
+    wiring: &[u8],
+    scratch: &mut [u8],
+    answer: &mut [u64],
+) -> bool
+    ensures answer { λ r. ⌜ Answered (checkEntries (checkTold (now (answer .exit)))) (now (answer .entry)) r (now (answer .exit)) ⌝ }
+    ensures short { λ r. ⌜ (r ≡ false → now (scratch .exit) ≡ now (scratch .entry)) ⌝ }
+    ensures checked { λ r. ⌜ (r ≡ true → Checked (ticketOf (now (ticket .entry))) w k first (now (wiring .entry)) (now (scratch .entry)) (now (scratch .exit)) (checkTold (now (answer .exit)))) ⌝ }
+{
+    if answer.len() < 2 {
+        return false;
+    }
+    let entries = check_entries(checker::check(ticket, Track(w), Layer(k), first, wiring, scratch));
     put(answer, &entries);
     true
 }
