@@ -8,6 +8,7 @@ pub mod maze;
 pub mod read;
 pub mod survey;
 pub mod tickets;
+pub mod wirings;
 
 /// The four sides, in the order of the side map's bits.
 pub const NORTH: usize = 0;

@@ -2,9 +2,9 @@
 //!
 //!     cargo run --manifest-path tests/slow/Cargo.toml --bin generate [-- --check]
 
-use slow::judge::{self, Grid};
-use slow::maze::route;
+use slow::judge;
 use slow::tickets::{self, damaged, encode, of_shape, Numbers, Places, DOCUMENT};
+use slow::wirings::{case, layered, spoiled, wired, Case};
 use slow::{read, survey, EAST, NORTH, SOUTH, WEST};
 use std::path::Path;
 
@@ -80,64 +80,6 @@ fn survey_tickets() -> Vec<Vec<u8>> {
     for _ in 0..220 {
         let t = tickets::random(r);
         out.push(if r.below(3) == 0 { damaged(r, &t) } else { t });
-    }
-    out
-}
-
-/// A wiring for Check: its ticket, its sizes, and the length of the scratch.
-struct Case {
-    ticket: Vec<u8>,
-    w: usize,
-    k: usize,
-    first: bool,
-    scratch: usize,
-    wiring: Vec<u8>,
-}
-
-fn case(ticket: &[u8], w: usize, k: usize, first: bool, wiring: Vec<u8>) -> Case {
-    Case { ticket: ticket.to_vec(), w, k, first, scratch: wiring.len(), wiring }
-}
-
-/// A random small ticket with a legal wiring.
-fn wired(r: &mut Numbers) -> Case {
-    loop {
-        let kind = 1 + r.below(3) as u8;
-        let g = Grid { n: 1 + r.below(9), w: 1 + r.below(6), k: 1 + r.below(7), first: r.below(2) == 1 };
-        let byte2 = if kind == 3 { g.w } else { 1 + r.below(8) };
-        let tenths = r.below(8);
-        let t = of_shape(r, kind, g.n, byte2, tenths);
-        let ticket = read::read(&t).expect("a good ticket");
-        let mut order = ticket.nets();
-        r.shuffle(&mut order);
-        if let Some(x) = route(g, &ticket.pins, &order) {
-            return case(&t, g.w, g.k, g.first, x);
-        }
-    }
-}
-
-/// The wiring with a point or two changed: metal taken away, loose metal, another net's, or a number of no net.
-fn spoiled(r: &mut Numbers, x: &[u8], nets: &[u8]) -> Vec<u8> {
-    let mut x = x.to_vec();
-    let used: Vec<usize> = (0..x.len()).filter(|q| x[*q] != 0).collect();
-    for _ in 0..1 + r.below(2) {
-        let anywhere = r.below(x.len());
-        match r.below(4) {
-            0 if !used.is_empty() => x[r.pick(&used)] = 0,
-            1 if !nets.is_empty() => x[anywhere] = r.pick(nets),
-            2 if !used.is_empty() => x[r.pick(&used)] = r.pick(nets),
-            _ if r.below(3) == 0 => x[anywhere] = 1 + r.below(255) as u8,
-            _ => {}
-        }
-    }
-    x
-}
-
-fn layered(n: usize, w: usize, k: usize, value: impl Fn(usize, usize, usize) -> u8) -> Vec<u8> {
-    let mut out = Vec::with_capacity(n * w * k);
-    for l in 1..=k {
-        for j in 1..=w {
-            out.extend((1..=n).map(|i| value(i, j, l)));
-        }
     }
     out
 }

@@ -1,0 +1,76 @@
+/* Pozqaben: a router for rows, channels and boxes, and a checker of wirings.
+ *
+ * Link target/staticlib/libpozqaben.a, which `rt staticlib pozqaben` builds at the top of the repository (x86-64 Linux).
+ *
+ * Each call writes its answer, number by number, into an array that the caller lends, and returns true. Where the array
+ * has fewer than the entries named below, it returns false and alters nothing at all. Entries past those are untouched.
+ * The first two entries are always number and place: 0 and 0, or a refusal, whose other entries are 0.
+ *
+ * The caller sees to it that a pointer is not null, also where its length is 0, and that it leads to as many elements as
+ * the length says; that no buffer which a call writes overlaps another of its arguments; and that a bool is 0 or 1.
+ *
+ *    number   refused because                                              place
+ *    1        the ticket ends before a byte that is needed                 the ticket's length
+ *    2        byte 0, the kind, is none of 1, 2 and 3                      0
+ *    3        byte 1, the length n, is none of 1 to 90                     1
+ *    4        byte 2 is none of 1 to 90 (box) or of 1 to 8                 2
+ *    5        byte 3, the side map, has a side that the kind has not       3
+ *    6        a position map has no bit, or a spare bit                    the map's first byte
+ *    7        a net number is none of 1 to 180                             its byte
+ *    8        bytes are left over                                          the first
+ *    9        a net has one pin                                            the smallest such net
+ *    10       the wiring buffer is shorter than n * w * k                  the length needed
+ *    11       a count is out of range, or w is not the box's own           0
+ *    12       the wiring's length is not n * w * k                         the right length
+ *    13       the scratch is shorter than n * w * k                        the length needed
+ *    14       a point of the wiring holds no net of the ticket             the first such point, in buffer order
+ *    15       a net is not in one piece                                    the smallest such net
+ *    16       the layer is none of 1 to k                                  that layer
+ */
+#ifndef POZQABEN_H
+#define POZQABEN_H
+
+#include <stdbool.h>
+#include <stddef.h>
+#include <stdint.h>
+
+#ifdef __cplusplus
+extern "C" {
+#endif
+
+/* How many entries each call writes. */
+enum {
+    POZQABEN_READ_ENTRIES = 6,
+    POZQABEN_SURVEY_ENTRIES = 10,
+    POZQABEN_LAY_ENTRIES = 11,
+    POZQABEN_CHECK_ENTRIES = 2,
+    POZQABEN_LAYER_VIEW_ENTRIES = 4
+};
+
+/* number, place, kind, n, byte 2, nets */
+bool pozqaben_read(const uint8_t *ticket, size_t ticket_length, uint64_t *answer, size_t answer_length);
+
+/* number, place, kind, n, w, nets, across, up, layers, floor; w is the box's own, or the tracks that lay uses; up and
+ * floor are 0 for rows and channels */
+bool pozqaben_survey(const uint8_t *ticket, size_t ticket_length, uint64_t *answer, size_t answer_length);
+
+/* number, place, kind, n, w, k, first, nets, across, up, floor; first is 1 where layer 1 is horizontal.
+ * The wiring holds point (i, j, l), counted from 1, at ((l - 1) * w + (j - 1)) * n + i - 1. A refusal alters no byte of
+ * it; bytes past n * w * k are untouched. */
+bool pozqaben_lay(const uint8_t *ticket, size_t ticket_length, uint8_t *wiring, size_t wiring_length, uint64_t *answer,
+                  size_t answer_length);
+
+/* number, place. The scratch has n * w * k bytes or more; refusals 1 to 13 alter none of them. */
+bool pozqaben_check(const uint8_t *ticket, size_t ticket_length, size_t w, size_t k, bool first, const uint8_t *wiring,
+                    size_t wiring_length, uint8_t *scratch, size_t scratch_length, uint64_t *answer,
+                    size_t answer_length);
+
+/* number, place, and of the layer's part of the wiring where it starts and its length: 0 and 0 when refused */
+bool pozqaben_layer_view(const uint8_t *wiring, size_t wiring_length, size_t n, size_t w, size_t k, size_t layer,
+                         uint64_t *answer, size_t answer_length);
+
+#ifdef __cplusplus
+}
+#endif
+
+#endif

@@ -1,0 +1,99 @@
+//! Ratios of one run, never a timed test: `cargo run --release --example bench` prints the tables of docs/BENCHMARKS.md.
+//!
+//! Lay is held against memset of the bytes that it writes, Check against a plain flood fill of the same wiring.
+
+mod flood;
+mod wirings;
+
+use flood::Flood;
+use pozqaben::{check_with, lay_into, read, survey};
+use slow::tickets::{of_shape, Numbers};
+use std::hint::black_box;
+
+#[repr(C)]
+struct Time {
+    seconds: i64,
+    nanoseconds: i64,
+}
+
+extern "C" {
+    fn clock_gettime(clock: i32, time: *mut Time) -> i32;
+}
+
+/// Processor time that this thread has had, so that other work on the machine does not count.
+fn processor_seconds() -> f64 {
+    const THREAD_CLOCK: i32 = 3;
+    let mut time = Time { seconds: 0, nanoseconds: 0 };
+    // Sound: the clock's number is Linux's, and the struct is C's timespec on 64-bit Linux.
+    unsafe { clock_gettime(THREAD_CLOCK, &mut time) };
+    time.seconds as f64 + time.nanoseconds as f64 * 1e-9
+}
+
+/// Seconds that a call takes: the best of many short batches, the first of which only warm up.
+fn seconds(mut call: impl FnMut()) -> f64 {
+    let mut batch = |times: usize| {
+        let start = processor_seconds();
+        (0..times).for_each(|_| call());
+        (processor_seconds() - start) / times as f64
+    };
+    let mut times = 1;
+    while batch(times) * (times as f64) < 1e-3 {
+        times *= 2;
+    }
+    (0..25).map(|_| batch(times)).fold(f64::INFINITY, f64::min)
+}
+
+fn lay_table(r: &mut Numbers) {
+    println!("| lay, a dense ticket | bytes | lay, µs | memset, µs | ratio |\n|---|---|---|---|---|");
+    let shapes = [("box 10 × 10", 3, 10, 10), ("box 90 × 90", 3, 90, 90), ("box 90 × 1", 3, 90, 1), ("box 1 × 90", 3, 1, 90), ("row of 90, h 1", 1, 90, 1), ("channel of 90, h 1", 2, 90, 1)];
+    for (name, kind, n, byte2) in shapes {
+        let ticket = of_shape(r, kind, n, byte2, 10);
+        let figures = survey(&ticket).expect("a good ticket");
+        let mut wiring = vec![0; figures.n * figures.w * figures.layers];
+        let lay = seconds(|| {
+            lay_into(black_box(&ticket), black_box(&mut wiring)).expect("a good ticket");
+        });
+        let memset = seconds(|| black_box(&mut wiring[..]).fill(black_box(0)));
+        println!("| {name} | {} | {:.2} | {:.2} | {:.1} |", wiring.len(), lay * 1e6, memset * 1e6, lay / memset);
+    }
+}
+
+fn check_table(r: &mut Numbers) {
+    println!("\n| check, 90 × 90 × 255 | verdict | check, ms | flood fill, ms | ratio |\n|---|---|---|---|---|");
+    let mut scratch = vec![0; 90 * 90 * 255];
+    let mut flood = Flood::new();
+    for (name, ticket, wiring) in wirings::all(r) {
+        let verdict = |refused: Option<u64>| refused.map_or("legal".to_string(), |net| format!("15 at {net}"));
+        let ours = check_with(&ticket, 90, 255, false, &wiring, &mut scratch).err().map(|e| e.place as u64);
+        assert_eq!(ours, flood.fill(&ticket, &wiring), "{name}");
+        let check = seconds(|| {
+            let _ = black_box(check_with(black_box(&ticket), 90, 255, false, &wiring, &mut scratch));
+        });
+        let plain = seconds(|| {
+            black_box(flood.fill(black_box(&ticket), &wiring));
+        });
+        println!("| {name} | {} | {:.2} | {:.2} | {:.2} |", verdict(ours), check * 1e3, plain * 1e3, check / plain);
+    }
+}
+
+fn call_table(r: &mut Numbers) {
+    println!("\n| ticket | bytes | read, calls a second | survey, calls a second |\n|---|---|---|---|");
+    for (name, kind, n, byte2) in [("box 4 × 1", 3, 4, 1), ("row of 90", 1, 90, 1), ("channel of 90", 2, 90, 1), ("box 90 × 90", 3, 90, 90)] {
+        let ticket = of_shape(r, kind, n, byte2, 10);
+        let reading = seconds(|| {
+            black_box(read(black_box(&ticket))).expect("a good ticket");
+        });
+        let surveying = seconds(|| {
+            black_box(survey(black_box(&ticket))).expect("a good ticket");
+        });
+        println!("| {name} | {} | {:.0} | {:.0} |", ticket.len(), 1.0 / reading, 1.0 / surveying);
+    }
+}
+
+fn main() {
+    let r = &mut Numbers::new(601);
+    println!("{} cores\n", std::thread::available_parallelism().map_or(1, |c| c.get()));
+    lay_table(r);
+    check_table(r);
+    call_table(r);
+}

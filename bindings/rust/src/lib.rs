@@ -1,0 +1,172 @@
+//! Pozqaben: reads and surveys tickets, lays wirings, checks wirings that anybody drew, and shows a layer of one.
+//!
+//! A safe wrapper of the calls that the repository proves. A ticket is bytes; a wiring is a buffer that holds point
+//! (i, j, l), counted from 1, at ((l - 1) * w + (j - 1)) * n + i - 1, a net's number or 0.
+//!
+//! ```
+//! let ticket = [2, 2, 1, 3, 3, 1, 2, 3, 2, 1]; // a channel: north 1 2, south 2 1
+//! let (laid, wiring) = pozqaben::lay(&ticket).unwrap();
+//! assert_eq!((laid.w, laid.k), (2, 3));
+//! pozqaben::check(&ticket, laid.w, laid.k, laid.first, &wiring).unwrap();
+//! let refusal = pozqaben::read(&[1, 2, 1, 1, 3, 1, 2]).unwrap_err();
+//! assert_eq!(refusal.to_string(), "refused 9 at 1: net 1 has one pin only");
+//! ```
+
+use std::fmt;
+
+pub mod raw;
+mod refusal;
+
+pub use refusal::Refusal;
+
+#[derive(Clone, Copy, Debug, PartialEq, Eq)]
+pub enum Kind {
+    Row,
+    Channel,
+    Box,
+}
+
+/// What a good ticket says.
+#[derive(Clone, Copy, Debug, PartialEq, Eq)]
+pub struct Reading {
+    pub kind: Kind,
+    pub n: usize,
+    /// The width of a box; otherwise the number of trunk layers.
+    pub byte2: usize,
+    pub nets: usize,
+}
+
+/// The figures of a good ticket.
+#[derive(Clone, Copy, Debug, PartialEq, Eq)]
+pub struct Survey {
+    pub kind: Kind,
+    pub n: usize,
+    /// The width of a box, or the tracks that `lay` uses.
+    pub w: usize,
+    pub nets: usize,
+    pub across: usize,
+    /// 0 but for boxes, as floor.
+    pub up: usize,
+    pub layers: usize,
+    pub floor: usize,
+}
+
+/// The line that the program prints.
+impl fmt::Display for Survey {
+    fn fmt(&self, f: &mut fmt::Formatter) -> fmt::Result {
+        let Survey { kind, n, w, nets, across, up, layers, floor } = self;
+        match kind {
+            Kind::Row => write!(f, "row length {n} nets {nets} across {across} tracks {w} layers {layers}"),
+            Kind::Channel => write!(f, "channel length {n} nets {nets} across {across} tracks {w} layers {layers}"),
+            Kind::Box => write!(f, "box length {n} width {w} nets {nets} across {across} up {up} layers {layers} floor {floor}"),
+        }
+    }
+}
+
+/// What `lay` says of the wiring that it laid.
+#[derive(Clone, Copy, Debug, PartialEq, Eq)]
+pub struct Laid {
+    pub kind: Kind,
+    pub n: usize,
+    pub w: usize,
+    pub k: usize,
+    /// Whether layer 1 is horizontal.
+    pub first: bool,
+    pub nets: usize,
+    pub across: usize,
+    /// 0 but for boxes, as floor.
+    pub up: usize,
+    pub floor: usize,
+}
+
+impl Laid {
+    /// How many bytes the wiring takes.
+    pub fn size(&self) -> usize {
+        self.n * self.w * self.k
+    }
+}
+
+fn kind(number: u64) -> Kind {
+    match number {
+        1 => Kind::Row,
+        2 => Kind::Channel,
+        _ => Kind::Box,
+    }
+}
+
+/// The entries as numbers of this machine, unless the first two are a refusal.
+fn accepted<const N: usize>(entries: [u64; N]) -> Result<[usize; N], Refusal> {
+    if entries[0] != 0 {
+        return Err(Refusal { number: entries[0] as u8, place: entries[1] as usize });
+    }
+    Ok(entries.map(|x| x as usize))
+}
+
+pub fn read(ticket: &[u8]) -> Result<Reading, Refusal> {
+    let mut answer = [0; raw::READ_ENTRIES];
+    // Sound: each pointer and length are those of one slice, and the array is borrowed here alone.
+    unsafe { raw::pozqaben_read(ticket.as_ptr(), ticket.len(), answer.as_mut_ptr(), answer.len()) };
+    let [_, _, k, n, byte2, nets] = accepted(answer)?;
+    Ok(Reading { kind: kind(k as u64), n, byte2, nets })
+}
+
+pub fn survey(ticket: &[u8]) -> Result<Survey, Refusal> {
+    let mut answer = [0; raw::SURVEY_ENTRIES];
+    // Sound: as in `read`.
+    unsafe { raw::pozqaben_survey(ticket.as_ptr(), ticket.len(), answer.as_mut_ptr(), answer.len()) };
+    let [_, _, k, n, w, nets, across, up, layers, floor] = accepted(answer)?;
+    Ok(Survey { kind: kind(k as u64), n, w, nets, across, up, layers, floor })
+}
+
+/// Lays the ticket into the buffer, of which a refusal alters no byte, and no other call a byte past the wiring.
+pub fn lay_into(ticket: &[u8], wiring: &mut [u8]) -> Result<Laid, Refusal> {
+    let mut answer = [0; raw::LAY_ENTRIES];
+    // Sound: as in `read`; the wiring is borrowed mutably, so it overlaps nothing.
+    unsafe { raw::pozqaben_lay(ticket.as_ptr(), ticket.len(), wiring.as_mut_ptr(), wiring.len(), answer.as_mut_ptr(), answer.len()) };
+    let [_, _, k, n, w, layers, first, nets, across, up, floor] = accepted(answer)?;
+    Ok(Laid { kind: kind(k as u64), n, w, k: layers, first: first == 1, nets, across, up, floor })
+}
+
+/// Lays the ticket into a buffer of its own, which is as long as the wiring.
+pub fn lay(ticket: &[u8]) -> Result<(Laid, Vec<u8>), Refusal> {
+    let figures = survey(ticket)?;
+    let mut wiring = vec![0; figures.n * figures.w * figures.layers];
+    let laid = lay_into(ticket, &mut wiring)?;
+    Ok((laid, wiring))
+}
+
+/// Whether the wiring is legal for the ticket; the scratch is as long as the wiring, or longer.
+pub fn check_with(ticket: &[u8], w: usize, k: usize, first: bool, wiring: &[u8], scratch: &mut [u8]) -> Result<(), Refusal> {
+    let mut answer = [0; raw::CHECK_ENTRIES];
+    // Sound: as in `lay_into`.
+    unsafe {
+        raw::pozqaben_check(
+            ticket.as_ptr(),
+            ticket.len(),
+            w,
+            k,
+            first,
+            wiring.as_ptr(),
+            wiring.len(),
+            scratch.as_mut_ptr(),
+            scratch.len(),
+            answer.as_mut_ptr(),
+            answer.len(),
+        )
+    };
+    accepted(answer).map(|_| ())
+}
+
+/// Whether the wiring is legal for the ticket.
+pub fn check(ticket: &[u8], w: usize, k: usize, first: bool, wiring: &[u8]) -> Result<(), Refusal> {
+    check_with(ticket, w, k, first, wiring, &mut vec![0; wiring.len()])
+}
+
+/// The wiring's own part for a layer, counted from 1: track by track, n bytes each.
+pub fn layer_view(wiring: &[u8], n: usize, w: usize, k: usize, layer: usize) -> Result<&[u8], Refusal> {
+    let mut answer = [0; raw::LAYER_VIEW_ENTRIES];
+    // Sound: as in `read`.
+    unsafe { raw::pozqaben_layer_view(wiring.as_ptr(), wiring.len(), n, w, k, layer, answer.as_mut_ptr(), answer.len()) };
+    let [_, _, start, length] = accepted(answer)?;
+    Ok(&wiring[start..start + length])
+}

@@ -1,0 +1,134 @@
+//! Check says what the independent union-find says of wirings by a maze router, by the slow router and by Lay, whole and
+//! spoiled, and alters the scratch only where it looks at the points.
+
+mod common;
+
+use common::{answered, extremes, ticket, Lent};
+use slow::judge;
+use slow::tickets::{encode, of_shape, random, Numbers, Places};
+use slow::wirings::{case, layered, spoiled, wired, Case};
+use slow::{EAST, NORTH, SOUTH, WEST};
+
+fn same_verdict(c: &Case) -> u64 {
+    let mut scratch = Lent::new(c.scratch, c.wiring.len() as u8);
+    let answer: [u64; 2] = answered(|a| common::check(&c.ticket, c.w, c.k, c.first, &c.wiring, scratch.part(), a));
+    let expected = judge::answer(&c.ticket, c.w, c.k, c.first, &c.wiring, c.scratch);
+    assert_eq!(answer, expected, "{:?} w {} k {} first {} {:?}", c.ticket, c.w, c.k, c.first, &c.wiring[..c.wiring.len().min(3000)]);
+    let used = if (1..=13).contains(&answer[0]) { 0 } else { c.wiring.len() };
+    assert!(scratch.kept_past(used), "the scratch of {:?}", c.ticket);
+    answer[0]
+}
+
+fn nets(ticket: &[u8]) -> Vec<u8> {
+    slow::read::read(ticket).map_or(vec![], |t| t.nets())
+}
+
+/// The wiring itself, spoiled twice, with the other first direction, and with a scratch that is longer.
+fn and_spoiled(r: &mut Numbers, c: Case) -> u64 {
+    let nets = nets(&c.ticket);
+    for _ in 0..2 {
+        let x = spoiled(r, &c.wiring, &nets);
+        same_verdict(&case(&c.ticket, c.w, c.k, c.first, x));
+    }
+    same_verdict(&case(&c.ticket, c.w, c.k, !c.first, c.wiring.clone()));
+    same_verdict(&Case { scratch: c.scratch + r.below(9), ..c })
+}
+
+#[test]
+fn maze_wirings() {
+    let r = &mut Numbers::new(301);
+    for _ in 0..30_000 {
+        let c = wired(r);
+        assert_eq!(and_spoiled(r, c), 0);
+    }
+}
+
+#[test]
+fn slow_wirings() {
+    let r = &mut Numbers::new(303);
+    for _ in 0..6_000 {
+        let t = random(r);
+        let (g, x) = slow::lay::lay(&slow::read::read(&t).expect("a good ticket"));
+        assert_eq!(and_spoiled(r, case(&t, g.w, g.k, g.first, x)), 0);
+    }
+}
+
+#[test]
+fn our_wirings() {
+    let r = &mut Numbers::new(305);
+    let mut tickets = extremes();
+    tickets.extend((0..6_000).map(|_| random(r)));
+    for t in tickets {
+        if let Ok((laid, x)) = pozqaben::lay(&t) {
+            assert_eq!(and_spoiled(r, case(&t, laid.w, laid.k, laid.first, x)), 0);
+        }
+    }
+}
+
+/// Points at random, with few nets, so that pieces grow large; and any bytes at all.
+#[test]
+fn noise() {
+    let r = &mut Numbers::new(307);
+    for _ in 0..20_000 {
+        let t = ticket(r);
+        let (w, k) = (t.get(2).map_or(1, |b| *b as usize), 1 + r.below(6));
+        let size = t.get(1).map_or(0, |n| *n as usize) * w * k;
+        let mut palette = nets(&t);
+        palette.truncate(1 + r.below(3));
+        palette.push(r.pick(&[0, 0, 0, 1, 255]));
+        let x = (0..size).map(|_| r.pick(&palette)).collect();
+        same_verdict(&case(&t, w, k, r.below(2) == 1, x));
+    }
+}
+
+#[test]
+fn refusals_before_the_points() {
+    let r = &mut Numbers::new(309);
+    for _ in 0..60 {
+        let c = wired(r);
+        let size = c.wiring.len();
+        for w in [0, 1, c.w, 90, 91, 256, 1 << 32, usize::MAX] {
+            for k in [0, 1, c.k, 255, 256, 1 << 32, usize::MAX] {
+                same_verdict(&case(&c.ticket, w, k, c.first, c.wiring.clone()));
+            }
+        }
+        let with = |scratch: usize, x: &[u8]| Case { scratch, ..case(&c.ticket, c.w, c.k, c.first, x.to_vec()) };
+        let longer = [&c.wiring[..], &[0]].concat();
+        for x in [&c.wiring[..], &c.wiring[1..], &longer, &[]] {
+            for scratch in [0, size - 1, size, size + 7] {
+                same_verdict(&with(scratch, x));
+            }
+        }
+        for cut in 0..c.ticket.len() {
+            same_verdict(&Case { ticket: c.ticket[..cut].to_vec(), ..with(size, &c.wiring) });
+        }
+    }
+}
+
+/// 90 × 90 × 255 points, the most that Check takes: full lines, one of them cut, one net everywhere, noise, nothing.
+#[test]
+fn largest_wirings() {
+    let r = &mut Numbers::new(311);
+    let sides = [(NORTH, 0), (SOUTH, 0), (WEST, 90), (EAST, 90)];
+    let pins: Places = sides.iter().flat_map(|(s, add)| (1..=90).map(move |i| ((*s, i), (i + add) as u8))).collect();
+    let t = encode(3, 90, 90, &pins);
+    let lines = layered(90, 90, 255, |i, j, l| if l % 2 == 1 { i as u8 } else { 90 + j as u8 });
+    assert_eq!(same_verdict(&case(&t, 90, 255, false, lines.clone())), 0);
+    same_verdict(&case(&t, 90, 255, true, lines.clone()));
+    let mut cut = lines.clone();
+    let (south_end, north_end) = (90 * 90 * 254 + 45, 90 * 90 * 255 - 45);
+    cut[south_end] = 0;
+    assert_eq!(same_verdict(&case(&t, 90, 255, false, cut.clone())), 0);
+    cut[north_end] = 0;
+    assert_eq!(same_verdict(&case(&t, 90, 255, false, cut)), 15);
+    let mut foreign = lines;
+    foreign[90 * 90 * 255 - 1] = 181;
+    assert_eq!(same_verdict(&case(&t, 90, 255, false, foreign)), 14);
+    assert_eq!(same_verdict(&case(&t, 90, 255, false, vec![0; 90 * 90 * 255])), 15);
+    let few = of_shape(r, 3, 90, 90, 10);
+    let names = nets(&few);
+    same_verdict(&case(&few, 90, 255, true, (0..90 * 90 * 255).map(|_| r.pick(&names[..2])).collect()));
+    let one: Places = (1..=90).map(|i| ((NORTH, i), 7)).collect();
+    assert_eq!(same_verdict(&case(&encode(2, 90, 8, &one), 90, 255, true, vec![7; 90 * 90 * 255])), 0);
+    assert_eq!(same_verdict(&case(&encode(2, 90, 8, &Places::new()), 90, 255, true, vec![0; 90 * 90 * 255])), 0);
+}

@@ -1,0 +1,112 @@
+//! The raw calls on slices, arrays and buffers that show what a call altered, and the tickets that the tests share.
+#![allow(dead_code)]
+
+use pozqaben::raw;
+use slow::tickets::{damaged, encode, of_shape, random, Numbers, Places, DOCUMENT};
+
+pub fn read(ticket: &[u8], answer: &mut [u64]) -> bool {
+    unsafe { raw::pozqaben_read(ticket.as_ptr(), ticket.len(), answer.as_mut_ptr(), answer.len()) }
+}
+
+pub fn survey(ticket: &[u8], answer: &mut [u64]) -> bool {
+    unsafe { raw::pozqaben_survey(ticket.as_ptr(), ticket.len(), answer.as_mut_ptr(), answer.len()) }
+}
+
+pub fn lay(ticket: &[u8], wiring: &mut [u8], answer: &mut [u64]) -> bool {
+    unsafe { raw::pozqaben_lay(ticket.as_ptr(), ticket.len(), wiring.as_mut_ptr(), wiring.len(), answer.as_mut_ptr(), answer.len()) }
+}
+
+pub fn check(ticket: &[u8], w: usize, k: usize, first: bool, wiring: &[u8], scratch: &mut [u8], answer: &mut [u64]) -> bool {
+    let (t, x, s) = (ticket.as_ptr(), wiring.as_ptr(), scratch.as_mut_ptr());
+    unsafe { raw::pozqaben_check(t, ticket.len(), w, k, first, x, wiring.len(), s, scratch.len(), answer.as_mut_ptr(), answer.len()) }
+}
+
+pub fn layer_view(wiring: &[u8], n: usize, w: usize, k: usize, layer: usize, answer: &mut [u64]) -> bool {
+    unsafe { raw::pozqaben_layer_view(wiring.as_ptr(), wiring.len(), n, w, k, layer, answer.as_mut_ptr(), answer.len()) }
+}
+
+/// No entry of an answer is so large.
+pub const MARK: u64 = 0xa5a5_a5a5_a5a5_a5a5;
+
+/// What a call writes into an array that has two entries more than it needs; those stay as they were.
+pub fn answered<const N: usize>(call: impl FnOnce(&mut [u64]) -> bool) -> [u64; N] {
+    let mut array = vec![MARK; N + 2];
+    assert!(call(&mut array), "an array that is long enough");
+    assert_eq!(array[N..], [MARK; 2], "entries past the answer");
+    array[..N].try_into().unwrap()
+}
+
+/// A buffer that stands between bytes that nothing may alter, filled with a pattern.
+pub struct Lent {
+    bytes: Vec<u8>,
+    salt: u8,
+}
+
+const MARGIN: usize = 32;
+
+impl Lent {
+    pub fn new(size: usize, salt: u8) -> Self {
+        let bytes = (0..size + 2 * MARGIN).map(|at| pattern(at, salt)).collect();
+        Lent { bytes, salt }
+    }
+
+    pub fn part(&mut self) -> &mut [u8] {
+        let end = self.bytes.len() - MARGIN;
+        &mut self.bytes[MARGIN..end]
+    }
+
+    pub fn has(&self) -> &[u8] {
+        &self.bytes[MARGIN..self.bytes.len() - MARGIN]
+    }
+
+    /// Every byte is as it was, but for the first `used` of the buffer.
+    pub fn kept_past(&self, used: usize) -> bool {
+        let same = |at: usize| self.bytes[at] == pattern(at, self.salt);
+        (0..MARGIN).all(same) && (MARGIN + used..self.bytes.len()).all(same)
+    }
+}
+
+fn pattern(at: usize, salt: u8) -> u8 {
+    (at as u8).wrapping_mul(37).wrapping_add(salt)
+}
+
+/// Good tickets, damaged ones, and bytes that only begin like a ticket.
+pub fn ticket(r: &mut Numbers) -> Vec<u8> {
+    let t = random(r);
+    match r.below(6) {
+        0 | 1 => t,
+        2 | 3 => damaged(r, &t),
+        4 => {
+            let once = damaged(r, &t);
+            if once.is_empty() { once } else { damaged(r, &once) }
+        }
+        _ => {
+            let mut t = vec![r.below(5) as u8, r.below(93) as u8, r.below(93) as u8, r.below(17) as u8];
+            let top = r.pick(&[2, 8, 190, 256]);
+            t.extend((0..r.below(40)).map(|_| r.below(top) as u8));
+            t
+        }
+    }
+}
+
+/// The largest and the smallest shapes, empty and full, and each header at the edge of its ranges.
+pub fn extremes() -> Vec<Vec<u8>> {
+    let r = &mut Numbers::new(17);
+    let mut out: Vec<Vec<u8>> = DOCUMENT.iter().map(|(_, t)| t.to_vec()).collect();
+    for (kind, n, byte2) in [(1, 1, 1), (1, 90, 1), (1, 90, 8), (2, 1, 8), (2, 90, 1), (2, 90, 8), (3, 1, 1), (3, 1, 90), (3, 90, 1), (3, 90, 90), (3, 89, 90)] {
+        out.extend([0, 2, 5, 8, 10].map(|tenths| of_shape(r, kind, n, byte2, tenths)));
+    }
+    let full: Places = (0..4).flat_map(|s| (1..=90).map(move |i| ((s, i), (2 * i - s % 2) as u8))).collect();
+    out.push(encode(3, 90, 90, &full));
+    let one: Places = (0..4).flat_map(|s| (1..=90).map(move |i| ((s, i), 180))).collect();
+    out.push(encode(3, 90, 90, &one));
+    out.extend([vec![], vec![0; 1000], vec![255; 1000], vec![3; 413]]);
+    for kind in [0, 1, 2, 3, 4, 255] {
+        for n in [0, 1, 90, 91, 255] {
+            for byte2 in [0, 1, 8, 9, 90, 91, 255] {
+                out.extend([0, 1, 3, 15, 16, 255].map(|sides| vec![kind, n, byte2, sides]));
+            }
+        }
+    }
+    out
+}

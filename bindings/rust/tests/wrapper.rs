@@ -1,0 +1,69 @@
+//! The safe wrapper's typed answers, and what its refusals say.
+
+use pozqaben::{check, check_with, lay, lay_into, layer_view, read, survey, Kind, Laid, Reading, Refusal, Survey};
+use slow::tickets::DOCUMENT;
+
+fn document(name: &str) -> &'static [u8] {
+    DOCUMENT.iter().find(|(n, _)| *n == name).expect("a ticket of the document").1
+}
+
+#[test]
+fn typed_answers() {
+    assert_eq!(read(document("R2")), Ok(Reading { kind: Kind::Row, n: 6, byte2: 2, nets: 3 }));
+    let box4 = Survey { kind: Kind::Box, n: 4, w: 1, nets: 4, across: 4, up: 4, layers: 12, floor: 7 };
+    assert_eq!(survey(document("box")), Ok(box4));
+    let channel = Survey { kind: Kind::Channel, n: 2, w: 2, nets: 2, across: 2, up: 0, layers: 3, floor: 0 };
+    assert_eq!(survey(document("C1")), Ok(channel));
+    let (laid, wiring) = lay(document("B1")).unwrap();
+    assert_eq!(laid, Laid { kind: Kind::Box, n: 1, w: 1, k: 6, first: false, nets: 1, across: 1, up: 1, floor: 2 });
+    assert_eq!(laid.size(), wiring.len());
+    assert_eq!(layer_view(&wiring, 1, 1, 6, 2), Ok(&wiring[1..2]));
+    let tall = [3, 1, 2, 12, 3, 1, 2, 3, 1, 2]; // n 1, w 2: turned, so layer 1 is horizontal
+    let (laid, wiring) = lay(&tall).unwrap();
+    assert!(laid.first);
+    assert_eq!(check(&tall, 2, laid.k, true, &wiring), Ok(()));
+}
+
+#[test]
+fn survey_lines() {
+    for (name, t) in DOCUMENT {
+        let line = survey(t).map_or_else(|r| format!("refused {} at {}", r.number, r.place), |s| s.to_string());
+        assert_eq!(line + "\n", slow::survey::line(t), "{name}");
+    }
+}
+
+/// Each number is met, and its text names number, place and meaning.
+#[test]
+fn refusals() {
+    let say = |r: Result<(), Refusal>, text: &str| assert_eq!(r.unwrap_err().to_string(), text);
+    let reads = |t: &[u8]| read(t).map(|_| ());
+    say(reads(document("T1")), "refused 1 at 6: the ticket ends after 6 bytes, before one that is needed");
+    say(reads(&[0, 1, 1, 0]), "refused 2 at 0: byte 0, the kind, is none of 1 (row), 2 (channel) and 3 (box)");
+    say(reads(document("T4")), "refused 3 at 1: byte 1, the length n, is none of 1 to 90");
+    say(
+        reads(&[1, 1, 9, 0]),
+        "refused 4 at 2: byte 2 is none of 1 to 90 (the width of a box) or of 1 to 8 (the trunk layers of a row or channel)",
+    );
+    say(reads(&[1, 1, 1, 2]), "refused 5 at 3: byte 3, the side map, has a side that the kind has not");
+    say(reads(document("T3")), "refused 6 at 4: the position map at byte 4 has no bit, or a spare bit");
+    say(reads(&[1, 2, 1, 1, 3, 1, 181]), "refused 7 at 6: the net number at byte 6 is none of 1 to 180");
+    say(reads(&[1, 2, 1, 0, 5]), "refused 8 at 4: bytes are left over from byte 4 on");
+    say(reads(document("T2")), "refused 9 at 1: net 1 has one pin only");
+    let row = [1, 2, 1, 1, 3, 1, 1];
+    say(
+        lay_into(&row, &mut [0; 3]).map(|_| ()),
+        "refused 10 at 4: the wiring buffer is shorter than the 4 bytes that the wiring takes",
+    );
+    say(
+        check(&row, 91, 2, false, &[]),
+        "refused 11 at 0: n or w is none of 1 to 90, or k none of 1 to 255, or w is not the box's own",
+    );
+    say(check(&row, 1, 2, false, &[1; 3]), "refused 12 at 4: the wiring's length is not n * w * k, which is 4");
+    say(
+        check_with(&row, 1, 2, false, &[1; 4], &mut [0; 3]),
+        "refused 13 at 4: the scratch is shorter than the 4 bytes that it must have",
+    );
+    say(check(&row, 1, 2, false, &[1, 1, 1, 2]), "refused 14 at 3: the point at byte 3 of the wiring holds no net of the ticket");
+    say(check(&row, 1, 2, false, &[1, 1, 0, 0]), "refused 15 at 1: net 1 is not in one piece");
+    say(layer_view(&[0; 4], 2, 1, 2, 3).map(|_| ()), "refused 16 at 3: the wiring has no layer 3");
+}

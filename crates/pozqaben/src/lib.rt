@@ -1,0 +1,194 @@
+// The public calls, exported for C and Rust. Each writes its answer, number by number, into an array that the caller lends,
+// and returns whether the array had the room; where it had not, nothing at all is altered.
+use checker::CheckAnswer;
+use grid::Column;
+use grid::Layer;
+use grid::Track;
+use router::LayAnswer;
+use survey::SurveyAnswer;
+use ticket::ReadAnswer;
+ghost use mathlib.Core.Path.{_≡_};
+ghost use mathlib.Core.Bool.{true, false};
+ghost use mathlib.Core.List.{_++_};
+ghost use Prim.Native.Nat.{_≤_};
+ghost use lib.ListN.{length, take, drop};
+ghost use Rattle.grid.specs.View.{viewPart};
+ghost use Rattle.ticket.specs.Read.{ticketOf, readOf};
+ghost use Rattle.survey.specs.Survey.{surveyOf};
+ghost use Rattle.router.specs.Lay.{layOf};
+ghost use Rattle.checker.specs.Check.{Checked};
+ghost use Rattle.pozqaben.specs.Lays.{Lays};
+ghost use Rattle.pozqaben.specs.Answers.{bit, readEntries, surveyEntries, layEntries, checkEntries, checkTold, viewStart, viewLength, viewEntries, Answered};
+
+// Stores the entries at the array's start.
+fn put(answer: &mut [u64], entries: &[u64])
+    requires { ⌜ length (now entries) ≤ length (now answer) ⌝ }
+    ensures { λ _. ⌜ now (answer .exit) ≡ now (entries .entry) ++ drop (length (now (entries .entry))) (now (answer .entry)) ⌝ }
+{
+    for i in 0..entries.len() {
+        answer[i] = entries[i];
+    }
+}
+
+fn read_entries(a: ReadAnswer) -> [u64; 6]
+    ensures { λ r. ⌜ r ≡ readEntries a ⌝ }
+{
+    [
+        a.number as u64,
+        a.place as u64,
+        a.kind as u64,
+        a.n.0 as u64,
+        a.byte2 as u64,
+        a.nets as u64,
+    ]
+}
+
+// Read: number, place, kind, n, byte 2, nets.
+#[no_mangle]
+pub extern "C" fn pozqaben_read(ticket: &[u8], answer: &mut [u64]) -> bool
+    ensures { λ r. ⌜ Answered (readEntries (readOf (now (ticket .entry)))) (now (answer .entry)) r (now (answer .exit)) ⌝ }
+{
+    if answer.len() < 6 {
+        return false;
+    }
+    let entries = read_entries(ticket::read(ticket));
+    put(answer, &entries);
+    true
+}
+
+fn survey_entries(a: SurveyAnswer) -> [u64; 10]
+    ensures { λ r. ⌜ r ≡ surveyEntries a ⌝ }
+{
+    [
+        a.number as u64,
+        a.place as u64,
+        a.kind as u64,
+        a.n.0 as u64,
+        a.w.0 as u64,
+        a.nets as u64,
+        a.across as u64,
+        a.up as u64,
+        a.layers.0 as u64,
+        a.floor.0 as u64,
+    ]
+}
+
+// Survey: number, place, kind, n, w, nets, across, up, layers, floor.
+#[no_mangle]
+pub extern "C" fn pozqaben_survey(ticket: &[u8], answer: &mut [u64]) -> bool
+    ensures { λ r. ⌜ Answered (surveyEntries (surveyOf (now (ticket .entry)))) (now (answer .entry)) r (now (answer .exit)) ⌝ }
+{
+    if answer.len() < 10 {
+        return false;
+    }
+    let entries = survey_entries(survey::survey(ticket));
+    put(answer, &entries);
+    true
+}
+
+fn bit(b: bool) -> u64
+    ensures { λ r. ⌜ r ≡ bit b ⌝ }
+{
+    if b { 1 } else { 0 }
+}
+
+fn lay_entries(a: LayAnswer) -> [u64; 11]
+    ensures { λ r. ⌜ r ≡ layEntries a ⌝ }
+{
+    [
+        a.number as u64,
+        a.place as u64,
+        a.kind as u64,
+        a.n.0 as u64,
+        a.w.0 as u64,
+        a.k.0 as u64,
+        bit(a.first),
+        a.nets as u64,
+        a.across as u64,
+        a.up as u64,
+        a.floor.0 as u64,
+    ]
+}
+
+// Lay: number, place, kind, n, w, k, first, nets, across, up, floor.
+#[no_mangle]
+pub extern "C" fn pozqaben_lay(ticket: &[u8], wiring: &mut [u8], answer: &mut [u64]) -> bool
+    ensures answer { λ r. ⌜ Answered (layEntries (layOf (now (ticket .entry)) (length (now (wiring .entry))))) (now (answer .entry)) r (now (answer .exit)) ⌝ }
+    ensures short { λ r. ⌜ (r ≡ false → now (wiring .exit) ≡ now (wiring .entry)) ⌝ }
+    ensures lays { λ r. ⌜ (r ≡ true → Lays (now (ticket .entry)) (layOf (now (ticket .entry)) (length (now (wiring .entry)))) (now (wiring .entry)) (now (wiring .exit))) ⌝ }
+{
+    if answer.len() < 11 {
+        return false;
+    }
+    let entries = lay_entries(router::lay(ticket, wiring));
+    put(answer, &entries);
+    true
+}
+
+fn check_entries(a: CheckAnswer) -> [u64; 2]
+    ensures { λ r. ⌜ r ≡ checkEntries a ⌝ }
+{
+    [a.number as u64, a.place as u64]
+}
+
+// Check: number, place.
+#[no_mangle]
+pub extern "C" fn pozqaben_check(
+    ticket: &[u8],
+    w: usize,
+    k: usize,
+    first: bool,
+    wiring: &[u8],
+    scratch: &mut [u8],
+    answer: &mut [u64],
+) -> bool
+    ensures answer { λ r. ⌜ Answered (checkEntries (checkTold (now (answer .exit)))) (now (answer .entry)) r (now (answer .exit)) ⌝ }
+    ensures short { λ r. ⌜ (r ≡ false → now (scratch .exit) ≡ now (scratch .entry)) ⌝ }
+    ensures checked { λ r. ⌜ (r ≡ true → Checked (ticketOf (now (ticket .entry))) w k first (now (wiring .entry)) (now (scratch .entry)) (now (scratch .exit)) (checkTold (now (answer .exit)))) ⌝ }
+{
+    if answer.len() < 2 {
+        return false;
+    }
+    let entries = check_entries(checker::check(ticket, Track(w), Layer(k), first, wiring, scratch));
+    put(answer, &entries);
+    true
+}
+
+fn view_entries(wiring: &[u8], n: Column, w: Track, k: Layer, layer: Layer) -> [u64; 4]
+    ensures { λ r. ⌜ r ≡ viewEntries (now (wiring .entry)) (n .0) (w .0) (k .0) (layer .0) ⌝ }
+{
+    let refusal = grid::layer_view_refusal(wiring, n, w, k, layer);
+    if refusal.number != 0 {
+        return [refusal.number as u64, refusal.place as u64, 0, 0];
+    }
+    let start = grid::index_of(Column(1), Track(1), layer, n, w, k);
+    let size = grid::area(n, w);
+    [
+        refusal.number as u64,
+        refusal.place as u64,
+        start as u64,
+        size as u64,
+    ]
+}
+
+// Layer view: number, place, and where the layer's part of the wiring starts and its length, 0 and 0 when refused.
+#[no_mangle]
+pub extern "C" fn pozqaben_layer_view(
+    wiring: &[u8],
+    n: usize,
+    w: usize,
+    k: usize,
+    layer: usize,
+    answer: &mut [u64],
+) -> bool
+    ensures answer { λ r. ⌜ Answered (viewEntries (now (wiring .entry)) n w k layer) (now (answer .entry)) r (now (answer .exit)) ⌝ }
+    ensures part { λ _. ⌜ viewPart (now (wiring .entry)) n w k layer
+        ≡ take (viewLength (now (wiring .entry)) n w k layer) (drop (viewStart (now (wiring .entry)) n w k layer) (now (wiring .entry))) ⌝ }
+{
+    if answer.len() < 4 {
+        return false;
+    }
+    let entries = view_entries(wiring, Column(n), Track(w), Layer(k), Layer(layer));
+    put(answer, &entries);
+    true
+}
