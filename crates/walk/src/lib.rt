@@ -28,10 +28,10 @@ fn claim(x: &[u8], m: &mut [u8], b: usize, v: u8, d: u8) -> bool
     requires { ⌜ (b < length (now x)) × (b < length (now m)) ⌝ }
     ensures { λ r. ⌜ Claimed (now (x .entry)) (now (m .entry)) (now (m .exit)) b v d r ⌝ }
 {
-    if m[b] != 0 {
+    if x[b] != v {
         return false;
     }
-    if x[b] != v {
+    if m[b] != 0 {
         return false;
     }
     m[b] = d;

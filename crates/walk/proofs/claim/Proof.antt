@@ -5,14 +5,14 @@ use borrow.Author.Needs.{needs}
 use Rattle.walk.proofs.claim.Statement.{statement}
 use Rattle.walk.proofs.claim.Tie as tie
 
-slice-read-if1 : tie.Need-slice-read-if1
-slice-read-if1 c = search needs
+shared-slice-read-if1 : tie.Need-shared-slice-read-if1
+shared-slice-read-if1 c = search needs
 
 returns : tie.Need-returns
 returns c = record { yes = λ e. absurd (false≢true e); no = λ e. refl }
 
-shared-slice-read-if2 : tie.Need-shared-slice-read-if2
-shared-slice-read-if2 c = search needs
+slice-read-if2 : tie.Need-slice-read-if2
+slice-read-if2 c = search needs
 
 returns-2 : tie.Need-returns-2
 returns-2 c = record { yes = λ e. absurd (false≢true e); no = λ e. refl }
@@ -24,15 +24,15 @@ same-length : tie.Need-same-length
 same-length c = search needs
 
 returns-3 : tie.Need-returns-3
-returns-3 c = record { yes = λ e. record { free = c .before .before .if1 .left; same = c .if2 .left; made = refl }; no = λ e. absurd (true≢false e) }
+returns-3 c = record { yes = λ e. record { free = c .if2 .left; same = c .before .before .if1 .left; made = refl }; no = λ e. absurd (true≢false e) }
 
 pub claim-spec : {M : Type 1} → statement M
 claim-spec =
     tie.close
     (tie.spec
-    slice-read-if1
+    shared-slice-read-if1
     returns
-    shared-slice-read-if2
+    slice-read-if2
     returns-2
     slice-write-m
     same-length
