@@ -177,15 +177,17 @@ fn touch(p: &[u8], s: &mut [u8], a: usize, x: &[u8], m: &mut [u8], b: usize) -> 
     if p[a] != x[b] {
         return 0;
     }
-    if s[a] == 0 {
-        if m[b] == 1 {
+    let pin = s[a];
+    let point = m[b];
+    if pin == 0 {
+        if point == 1 {
             s[a] = 2;
             return 1;
         }
         return 0;
     }
-    if s[a] == 1 {
-        if m[b] == 0 {
+    if pin == 1 {
+        if point == 0 {
             m[b] = 2;
             return 1;
         }

@@ -19,11 +19,11 @@ returns c =
     let if1 = c .if1 in
     only-quiet (a-pin _) (a-point _) (record { there = λ q h. absurd (if1 .taken q); back = λ q h. absurd (if1 .taken q) })
 
-slice-read-if2 : tie.Need-slice-read-if2
-slice-read-if2 c = search needs
+slice-read-pin : tie.Need-slice-read-pin
+slice-read-pin c = search needs
 
-slice-read-if3 : tie.Need-slice-read-if3
-slice-read-if3 c = search needs
+slice-read-point : tie.Need-slice-read-point
+slice-read-point c = search needs
 
 slice-write-s : tie.Need-slice-write-s
 slice-write-s c = search needs
@@ -35,16 +35,10 @@ returns-2 : tie.Need-returns-2
 returns-2 c =
     let if1 = c .before .before .before .before .if1 in
     let args = c .before .before .before .before .before .before .before .args in
-    only-first (a-pin _) (a-point _) (if1 .left) (c .if3 .taken) (marked-pin (now (args .s)) (now (args .m)) (args .a) (omega arith) (c .before .before .if2 .taken))
+    only-first (a-pin _) (a-point _) (if1 .left) (c .if3 .taken) (marked-pin (now (args .s)) (now (args .m)) (args .a) (omega arith) (c .before .if2 .taken))
 
 returns-3 : tie.Need-returns-3
 returns-3 c = only-quiet (a-pin _) (a-point _) (record { there = λ q h. absurd (omega arith); back = λ q h. absurd (c .if3 .left h) })
-
-slice-read-if4 : tie.Need-slice-read-if4
-slice-read-if4 c = search needs
-
-slice-read-if5 : tie.Need-slice-read-if5
-slice-read-if5 c = search needs
 
 slice-write-m : tie.Need-slice-write-m
 slice-write-m c = search needs
@@ -54,17 +48,15 @@ same-length-2 c = search needs
 
 returns-4 : tie.Need-returns-4
 returns-4 c =
-    let if1 = c .before .before .before .before .before .before .if1 in
-    let args = c .before .before .before .before .before .before .before .before .before .args in
-    only-second (a-pin _) (a-point _) (if1 .left) (c .before .before .if4 .taken) (marked-point (now (args .s)) (now (args .m)) (args .b) (omega arith) (c .if5 .taken))
+    let if1 = c .before .before .before .before .before .if1 in
+    let args = c .before .before .before .before .before .before .before .before .args in
+    only-second (a-pin _) (a-point _) (if1 .left) (c .before .if4 .taken) (marked-point (now (args .s)) (now (args .m)) (args .b) (omega arith) (c .if5 .taken))
 
 returns-5 : tie.Need-returns-5
-returns-5 c =
-    let if2 = c .before .before .before .before .if2 in
-    only-quiet (a-pin _) (a-point _) (record { there = λ q h. c .if5 .left; back = λ q h. if2 .left })
+returns-5 c = only-quiet (a-pin _) (a-point _) (record { there = λ q h. c .if5 .left; back = λ q h. c .before .before .if2 .left })
 
 returns-6 : tie.Need-returns-6
-returns-6 c = only-quiet (a-pin _) (a-point _) (record { there = λ q h. absurd (c .if4 .left h); back = λ q h. c .before .before .if2 .left })
+returns-6 c = only-quiet (a-pin _) (a-point _) (record { there = λ q h. absurd (c .if4 .left h); back = λ q h. c .before .if2 .left })
 
 pub touch-spec : {M : Type 1} → statement M
 touch-spec =
@@ -73,14 +65,12 @@ touch-spec =
     shared-slice-read-if1
     shared-slice-read-if1-2
     returns
-    slice-read-if2
-    slice-read-if3
+    slice-read-pin
+    slice-read-point
     slice-write-s
     same-length
     returns-2
     returns-3
-    slice-read-if4
-    slice-read-if5
     slice-write-m
     same-length-2
     returns-4
