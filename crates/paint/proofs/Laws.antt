@@ -14,7 +14,7 @@ use borrow.Rule.Slice.PartMut.{midOf, postOf, putMid, same-len-mid, take-put, dr
 use Rattle.grid.specs.Grid.{Grid, point, Inside}
 use Rattle.grid.specs.Legal.{Wiring, index, wiringOf}
 use Rattle.grid.proofs.Buffer.{index-is}
-use Rattle.paint.specs.Paint.{Striped, Painted, Drawn}
+use Rattle.paint.specs.Paint.{Striped, Painted, Starts, Drawn}
 
 -- ---- byte by byte: the first i bytes are f
 
@@ -38,6 +38,34 @@ upto-all {before} {after} {n} {f} h u = record { long = u .long; here = λ i j h
   where
     at : (i j : ℕ) → i < n → j ≡ 0 → getD after (j * length before + i) 0 ≡ f i j
     at i j hi e = rw e (ap (λ t. getD after t 0) (omega (arith, zero-mul (length before))) ∙ u .here i hi)
+
+-- a row of m bytes is m rows of one byte
+pub bytes-rows : {before after : List ℕ} {n m : ℕ} {v : ℕ → ℕ} {f : ℕ → ℕ → ℕ} → n ≡ 1 → length before ≡ m → ((j : ℕ) → v j ≡ f 0 j)
+    → Striped before after (length before) 1 (λ i j. v i) → Striped before after n m f
+bytes-rows {before} {after} {n} {m} {v} {f} one size same s = record {
+  long = s .long;
+  here = λ i j hi hj.
+      let first : i ≡ 0 = omega arith in
+      let place : j * n ≡ j = ap (λ (u : ℕ). j * u) one ∙ mul-one j in
+      ap (λ (u : ℕ). getD after u 0) (omega (arith, first, place, zero-mul (length before)))
+      ∙ s .here j 0 (omega arith) (omega arith) ∙ same j ∙ sym (ap (λ (u : ℕ). f u j) first);
+}
+
+-- the row's first bytes are as many as the values, and rows of them are rows of the values
+pub held-size : {row values : List ℕ} → length values ≤ 90 → Starts row values → length (take (length values) row) ≡ length values
+held-size {row} {values} few r = length-take-le (length values) row (omega (arith, r .long))
+
+pub held-rows : {before after row values : List ℕ} {w : ℕ} → length values ≤ 90 → Starts row values
+    → Striped before after (length (take (length values) row)) w (λ i j. getD (take (length values) row) i 0)
+    → Striped before after (length values) w (λ i j. getD values i 0)
+held-rows {before} {after} {row} {values} {w} few r s = record {
+  long = s .long;
+  here = λ i j hi hj. subst (λ (u : ℕ). getD after (j * u + i) 0 ≡ getD (take (length values) row) i 0) size (s .here i j (omega (arith, size)) hj)
+      ∙ getD-take (length values) row i 0 hi ∙ r .here i hi;
+}
+  where
+    size : length (take (length values) row) ≡ length values
+    size = held-size few r
 
 -- row j, and byte i of it, lie within w rows of n
 pub row-in : (n w j : ℕ) → j < w → j * n + n ≤ n * w

@@ -2,6 +2,7 @@
 --
 --   Striped before after n w f        a part of w rows of n bytes: row j's byte i is f i j
 --   Painted before after from n w f   the same of the part that starts at `from`, and every other byte is as it was
+--   Starts row values                 the row's first bytes are the values, at most 90
 --   Drawn n w before after top x      layers 1 to top, of n × w bytes each, hold the wiring x, and every byte past them is as it was
 use Prim.Native.Nat.{ℕ, suc, _+_, _*_, _≤_, _<_}
 use mathlib.Core.Path.{_≡_}
@@ -18,6 +19,10 @@ pub record Painted (before after : List ℕ) (from n w : ℕ) (f : ℕ → ℕ �
   pub long : length after ≡ length before
   pub here : (i j : ℕ) → i < n → j < w → getD after (from + (j * n + i)) 0 ≡ f i j
   pub others : (b : ℕ) → (b < from) ⊎ (from + n * w ≤ b) → getD after b 0 ≡ getD before b 0
+
+pub record Starts (row values : List ℕ) : Type 0 where
+  pub long : length row ≡ 90
+  pub here : (i : ℕ) → i < length values → getD row i 0 ≡ getD values i 0
 
 pub record Drawn (n w : ℕ) (before after : List ℕ) (top : ℕ) (x : Wiring) : Type 0 where
   pub long : length after ≡ length before

@@ -3,7 +3,7 @@
 ghost use mathlib.Core.Path.{_≡_};
 ghost use Prim.Native.Nat.{_+_, _*_, _≤_};
 ghost use lib.ListN.{length, getD};
-ghost use Rattle.paint.specs.Paint.{Striped, Painted};
+ghost use Rattle.paint.specs.Paint.{Striped, Painted, Starts};
 
 // Each byte of the part is v.
 fn fill(part: &mut [u8], v: u8)
@@ -24,8 +24,8 @@ fn copy(part: &mut [u8], values: &[u8])
     }
 }
 
-// Of w tracks each is a copy of values, so that column i is values[i - 1] from end to end.
-fn columns(part: &mut [u8], values: &[u8], w: usize)
+// Of w rows each is a copy of values.
+fn rows(part: &mut [u8], values: &[u8], w: usize)
     requires { ⌜ length (now part) ≡ length (now values) * w ⌝ }
     ensures { λ _. ⌜ Striped (now (part .entry)) (now (part .exit)) (length (now (values .entry))) w (λ i j. getD (now (values .entry)) i 0) ⌝ }
 {
@@ -37,8 +37,40 @@ fn columns(part: &mut [u8], values: &[u8], w: usize)
     }
 }
 
-// Track j is values[j - 1] in each of its n columns.
-fn tracks(part: &mut [u8], values: &[u8], n: usize)
+// A copy of values, of which there are at most 90.
+fn held(values: &[u8]) -> [u8; 90]
+    requires { ⌜ length (now values) ≤ 90 ⌝ }
+    ensures { λ r. ⌜ Starts r (now (values .entry)) ⌝ }
+{
+    let mut row: [u8; 90] = [0; 90];
+    for i in 0..values.len() {
+        row[i] = values[i];
+    }
+    row
+}
+
+// Of w tracks each is a copy of values, so that column i is values[i - 1] from end to end. The compiler knows that an array
+// held here is apart from the part, and copies its rows without a test.
+fn columns(part: &mut [u8], values: &[u8], w: usize)
+    requires { ⌜ length (now part) ≡ length (now values) * w ⌝ }
+    ensures { λ _. ⌜ Striped (now (part .entry)) (now (part .exit)) (length (now (values .entry))) w (λ i j. getD (now (values .entry)) i 0) ⌝ }
+{
+    let n = values.len();
+    if n == 1 {
+        fill(part, values[0]);
+        return;
+    }
+    if n > 90 {
+        rows(part, values, w);
+        return;
+    }
+    let row = held(values);
+    let r = &row[..];
+    rows(part, &r[..n], w);
+}
+
+// Row j is values[j - 1] in each of its n bytes.
+fn runs(part: &mut [u8], values: &[u8], n: usize)
     requires { ⌜ length (now part) ≡ n * length (now values) ⌝ }
     ensures { λ _. ⌜ Striped (now (part .entry)) (now (part .exit)) n (length (now (values .entry))) (λ i j. getD (now (values .entry)) j 0) ⌝ }
 {
@@ -47,6 +79,18 @@ fn tracks(part: &mut [u8], values: &[u8], n: usize)
         fill(&mut part[from..from + n], values[j]);
         from += n;
     }
+}
+
+// Track j is values[j - 1] in each of its n columns.
+fn tracks(part: &mut [u8], values: &[u8], n: usize)
+    requires { ⌜ length (now part) ≡ n * length (now values) ⌝ }
+    ensures { λ _. ⌜ Striped (now (part .entry)) (now (part .exit)) n (length (now (values .entry))) (λ i j. getD (now (values .entry)) j 0) ⌝ }
+{
+    if n == 1 {
+        copy(part, values);
+        return;
+    }
+    runs(part, values, n);
 }
 
 // count bytes of the wiring from `from` on.

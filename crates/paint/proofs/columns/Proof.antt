@@ -1,86 +1,89 @@
-use Prim.Native.Nat.{ℕ, _+_, _*_, _-_, _≤_}
-use mathlib.Core.Path.{_≡_, subst, _∙_}
+use Prim.Native.Nat.{ℕ, _*_}
+use mathlib.Core.Path.{refl, sym, ap, _∙_}
 use native.Mathlib.Omega.{arith}
-use native.Mathlib.Nat.{zero-mul, add-sub-cancel-left}
-use native.Mathlib.Numerals.{add-one}
-use lib.ListN.{length, getD}
-use Rattle.paint.specs.Paint.{Striped}
-use Rattle.paint.proofs.Laws.{row-in, row-none, row-step, next-row, rows-all, mid-size}
+use native.Mathlib.Nat.{one-mul}
+use Rattle.paint.proofs.Laws.{bytes-rows, held-size, held-rows}
+use borrow.Author.Needs.{needs}
 use Rattle.paint.proofs.columns.Statement.{statement}
 use Rattle.paint.proofs.columns.Tie as tie
 use Rattle.paint.proofs.columns.Reads as reads
 use Rattle.paint.proofs.columns.Lts as lts
-use Rattle.paint.proofs.copy.Reads as copy-reads
+use Rattle.paint.proofs.fill.Reads as fill-reads
+use Rattle.paint.proofs.held.Reads as held-reads
+use Rattle.paint.proofs.rows.Reads as rows-reads
 
-abbrev Inv-loop : tie.InvT-loop
-Inv-loop part₀ values w n from₀ j₀ part from j = (j ≤ w) × (from ≡ j * length values) × Striped part₀ part (length values) j (λ i z. getD values i 0)
+-- src/lib.rt:60:20
+shared-slice-read-fill : tie.Need-shared-slice-read-fill
+shared-slice-read-fill c = search needs
 
-abbrev μ-loop : tie.MeasureT-loop
-μ-loop part₀ values w n from₀ j₀ part from j = w - j
+-- src/lib.rt:60:9
+fill-requires : tie.Need-fill-requires
+fill-requires c κs = search needs
 
--- src/lib.rt:34:5
-loop-holds : tie.Need-loop-holds Inv-loop μ-loop
-loop-holds c = (omega arith, omega (arith, zero-mul (length (c .before .before .args .values .now))), row-none _ _ _)
+-- src/lib.rt:61:9
+same-length : tie.Need-same-length
+same-length c = search needs
 
--- src/lib.rt:35:30
-add-copy : tie.Need-add-copy Inv-loop μ-loop
-add-copy c = omega (arith, row-in (length (c .before .before .before .before .args .values .now)) (c .before .before .before .before .args .w) (c .before .loop .j) (omega arith), c .before .loop .inv .2 .long)
+-- src/lib.rt:61:9
+returns : tie.Need-returns
+returns c =
+    let c5 = c .before .before .before .before .before in
+    let c8 = c5 .before .before .before in
+    bytes-rows (c5 .if1 .taken) (c8 .pre ∙ ap (λ (u : ℕ). u * c8 .args .w) (c5 .if1 .taken) ∙ one-mul _) (λ j. refl) (c .before .before .fill .ensures)
 
--- src/lib.rt:35:14
-sub-copy : tie.Need-sub-copy Inv-loop μ-loop
-sub-copy c = omega arith
+-- src/lib.rt:64:9
+rows-requires : tie.Need-rows-requires
+rows-requires c κs = search needs
 
--- src/lib.rt:35:14
-part-copy-start : tie.Need-part-copy-start Inv-loop μ-loop
-part-copy-start c = omega arith
+-- src/lib.rt:65:9
+same-length-2 : tie.Need-same-length-2
+same-length-2 c = search needs
 
--- src/lib.rt:35:14
-part-copy-end : tie.Need-part-copy-end Inv-loop μ-loop
-part-copy-end c = omega (arith, row-in (length (c .before .before .before .before .args .values .now)) (c .before .before .before .before .args .w) (c .before .loop .j) (omega arith), c .before .loop .inv .2 .long)
+-- src/lib.rt:65:9
+returns-2 : tie.Need-returns-2
+returns-2 c = search needs
 
--- src/lib.rt:35:9
-copy-requires : tie.Need-copy-requires Inv-loop μ-loop
-copy-requires c κs = mid-size (c .before .before .loop .from) (length (c .before .before .before .before .before .args .values .now)) (c .before .before .loop .part) (omega (arith, row-in (length (c .before .before .before .before .before .args .values .now)) (c .before .before .before .before .before .args .w) (c .before .before .loop .j) (omega arith), c .before .before .loop .inv .2 .long))
+-- src/lib.rt:67:15
+held-requires : tie.Need-held-requires
+held-requires c κs = search needs
 
--- src/lib.rt:36:9
-add-from : tie.Need-add-from Inv-loop μ-loop
-add-from c = omega (arith, row-in (length (c .before .before .before .before .before .before .before .before .args .values .now)) (c .before .before .before .before .before .before .before .before .args .w) (c .before .before .before .before .before .loop .j) (omega arith), c .before .before .before .before .before .loop .inv .2 .long)
+-- src/lib.rt:68:9
+slice-aggregate-r : tie.Need-slice-aggregate-r
+slice-aggregate-r c = search needs
 
--- src/lib.rt:34:9
-add-j : tie.Need-add-j Inv-loop μ-loop
-add-j c = omega arith
+-- src/lib.rt:69:16
+slice-aggregate-rows : tie.Need-slice-aggregate-rows
+slice-aggregate-rows c = sym (held-size (omega arith) (c .before .before .before .held .ensures))
 
--- src/lib.rt:34:5
-loop-less : tie.Need-loop-less Inv-loop μ-loop
-loop-less c = omega arith
+-- src/lib.rt:69:5
+rows-requires-2 : tie.Need-rows-requires-2
+rows-requires-2 c κs =
+    let c8 = c .before .before .before .before .before .before .before .before in
+    c8 .pre ∙ sym (ap (λ (u : ℕ). u * c8 .args .w) (held-size (omega arith) (c .before .before .before .held .ensures)))
 
--- src/lib.rt:34:5
-loop-again : tie.Need-loop-again Inv-loop μ-loop
-loop-again c = (omega arith, next-row _ _ (c .before .before .before .before .before .loop .j) (c .before .before .before .before .before .loop .inv .1), row-step _ (c .before .before .before .before .before .loop .inv .1) (add-sub-cancel-left _ _) (omega (arith, row-in (length (c .before .before .before .before .before .before .before .before .args .values .now)) (c .before .before .before .before .before .before .before .before .args .w) (c .before .before .before .before .before .loop .j) (omega arith), c .before .before .before .before .before .loop .inv .2 .long)) (c .before .before .before .before .before .loop .inv .2) (c .before .before .copy .ensures))
+-- src/lib.rt:54:1
+same-length-3 : tie.Need-same-length-3
+same-length-3 c = search needs
 
--- src/lib.rt:28:1
-same-length : tie.Need-same-length Inv-loop μ-loop
-same-length c = c .before .loop .inv .2 .long
-
--- src/lib.rt:28:1
-returns : tie.Need-returns Inv-loop μ-loop
-returns c = rows-all (omega arith) (c .before .loop .inv .2)
+-- src/lib.rt:54:1
+returns-3 : tie.Need-returns-3
+returns-3 c =
+    held-rows (omega arith) (c .before .before .before .before .before .before .held .ensures) (c .before .before .rows2 .ensures)
 
 pub columns-spec : {M : Type 1} → statement M
 columns-spec =
     tie.close
     (tie.spec
-    Inv-loop
-    μ-loop
-    loop-holds
-    add-copy
-    sub-copy
-    part-copy-start
-    part-copy-end
-    copy-requires
-    add-from
-    add-j
-    loop-less
-    loop-again
+    shared-slice-read-fill
+    fill-requires
     same-length
-    returns)
+    returns
+    rows-requires
+    same-length-2
+    returns-2
+    held-requires
+    slice-aggregate-r
+    slice-aggregate-rows
+    rows-requires-2
+    same-length-3
+    returns-3)
