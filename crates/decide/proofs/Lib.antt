@@ -1,0 +1,5 @@
+pub mod Search
+pub mod Tests
+pub mod Nodes
+pub mod Nets
+pub mod Deciding
