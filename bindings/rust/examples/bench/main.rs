@@ -43,18 +43,46 @@ fn seconds(mut call: impl FnMut()) -> f64 {
     (0..25).map(|_| batch(times)).fold(f64::INFINITY, f64::min)
 }
 
+/// Lay and memset into the same buffer over and over, or into each part of a memory in turn, seconds a call.
+fn lay_and_memset(ticket: &[u8], size: usize, memory: &mut [u8]) -> (f64, f64) {
+    let parts = memory.len() / size;
+    let mut part = 0;
+    let mut next = || {
+        part = (part + 1) % parts;
+        part * size
+    };
+    let lay = seconds(|| {
+        let at = next();
+        lay_into(black_box(ticket), &mut memory[at..at + size]).expect("a good ticket");
+    });
+    let memset = seconds(|| {
+        let at = next();
+        black_box(&mut memory[at..at + size]).fill(black_box(0));
+    });
+    (lay, memset)
+}
+
 fn lay_table(r: &mut Numbers) {
-    println!("| lay, a dense ticket | bytes | lay, µs | memset, µs | ratio |\n|---|---|---|---|---|");
-    let shapes = [("box 10 × 10", 3, 10, 10), ("box 90 × 90", 3, 90, 90), ("box 90 × 1", 3, 90, 1), ("box 1 × 90", 3, 1, 90), ("row of 90, h 1", 1, 90, 1), ("channel of 90, h 1", 2, 90, 1)];
+    println!("| lay, a dense ticket | bytes | lay, µs | memset, µs | ratio | not in the cache: lay, µs | memset, µs | ratio |");
+    println!("|---|---|---|---|---|---|---|---|");
+    let shapes = [
+        ("box 10 × 10", 3, 10, 10),
+        ("box 90 × 90", 3, 90, 90),
+        ("box 90 × 1", 3, 90, 1),
+        ("box 1 × 90", 3, 1, 90),
+        ("row of 90, h 1", 1, 90, 1),
+        ("channel of 90, h 1", 2, 90, 1),
+    ];
+    let mut large = vec![1; 256 << 20];
     for (name, kind, n, byte2) in shapes {
         let ticket = of_shape(r, kind, n, byte2, 10);
         let figures = survey(&ticket).expect("a good ticket");
-        let mut wiring = vec![0; figures.n * figures.w * figures.layers];
-        let lay = seconds(|| {
-            lay_into(black_box(&ticket), black_box(&mut wiring)).expect("a good ticket");
-        });
-        let memset = seconds(|| black_box(&mut wiring[..]).fill(black_box(0)));
-        println!("| {name} | {} | {:.2} | {:.2} | {:.1} |", wiring.len(), lay * 1e6, memset * 1e6, lay / memset);
+        let size = figures.n * figures.w * figures.layers;
+        let (lay, memset) = lay_and_memset(&ticket, size, &mut large[..size]);
+        let (cold_lay, cold_memset) = lay_and_memset(&ticket, size, &mut large);
+        let ratios = (lay / memset, cold_lay / cold_memset);
+        print!("| {name} | {size} | {:.2} | {:.2} | {:.1} ", lay * 1e6, memset * 1e6, ratios.0);
+        println!("| {:.2} | {:.2} | {:.1} |", cold_lay * 1e6, cold_memset * 1e6, ratios.1);
     }
 }
 
