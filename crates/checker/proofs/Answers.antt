@@ -1,22 +1,22 @@
 -- From what the inner functions find to Check's outcome: the first point of an unknown number is the first foreign one, and the smallest net with an
 -- unmarked spot is the smallest that is not in one piece.
-use Prim.Native.Nat.{ℕ, _+_, _*_, _-_, _≤_, _<_}
+use Prim.Native.Nat.{ℕ, _*_, _-_, _≤_, _<_}
 use mathlib.Core.Path.{_≡_, refl, sym, ap, _∙_, subst}
 use mathlib.Core.Logic.{_⊎_, inl, inr, _≢_, ⊎-elim}
 use mathlib.Core.List.{List}
 use native.Mathlib.Omega.{arith}
-use native.Mathlib.Decide.{ℕ-discrete, decLt}
+use native.Mathlib.Decide.{decLt}
 use lib.ListN.{length, List·getD-eq-default}
 use Rattle.counting.specs.Counting.{In}
-use Rattle.grid.specs.Grid.{Grid, Side, north, south, west, east, Node, pin, point, places, Inside}
-use Rattle.grid.specs.Legal.{Pins, Wiring, holds, Held, Linked, Legal, wiringOf, index}
-use Rattle.grid.proofs.Buffer.{index-in, point-at}
+use Rattle.grid.specs.Grid.{Grid, Side, north, south, west, east, Node, pin, point, places}
+use Rattle.grid.specs.Legal.{Pins, Wiring, Held, Legal, wiringOf, index}
+use Rattle.grid.proofs.Buffer.{point-at}
 use Rattle.sweep.specs.Marks.{at, Spot, a-pin, a-point, val}
 use Rattle.sweep.specs.Edges.{pinAt}
 use Rattle.sweep.proofs.Places.{spot}
-use Rattle.checker.specs.Check.{refusal, Foreign, FirstForeign, OnePiece, Broken, FirstBroken, Judged}
-use Rattle.checker.specs.Marking.{Listed, Holder, Opened, FirstUnknown, Torn}
-use Rattle.checker.proofs.Verdict.{value, Hub, hub, one-piece, broken}
+use Rattle.checker.specs.Check.{refusal, Foreign, FirstForeign, OnePiece, Broken, Judged}
+use Rattle.checker.specs.Marking.{Listed, Opened, FirstUnknown, Torn}
+use Rattle.checker.proofs.Verdict.{Hub, hub, one-piece, broken}
 
 pin-in : (g : Grid) → g .n ≤ 90 → g .w ≤ 90 → (s : Side) (a : ℕ) → In a (places g s) → pinAt s a < 360
 pin-in g n w north a i = omega arith

@@ -1,19 +1,18 @@
 -- Once the marks have settled, a net is in one piece just where all that holds it is marked: its first pin, the only mark of the net that they began
 -- with, is linked to just what is marked.
-use Prim.Native.Nat.{ℕ, zero, suc, _+_, _-_, _≤_, _<_}
+use Prim.Native.Nat.{ℕ, zero, suc, _+_, _-_, _<_}
 use mathlib.Core.Path.{_≡_, refl, sym, ap, _∙_, subst}
-use mathlib.Core.Logic.{_⊎_, inl, inr, _≢_, ⊎-elim, ⊎-swap}
+use mathlib.Core.Logic.{_⊎_, inl, inr, _≢_}
 use mathlib.Core.List.{List}
 use native.Mathlib.Omega.{arith}
 use native.Mathlib.Decide.{ℕ-discrete, decLt}
-use Rattle.counting.specs.Counting.{In}
-use Rattle.grid.specs.Grid.{Grid, Side, Node, pin, point, places, Inside, Edge}
+use Rattle.grid.specs.Grid.{Grid, Node, pin, point, Inside, Edge}
 use Rattle.grid.specs.Legal.{Pins, Wiring, holds, Held, Linked, stay, step, wiringOf}
 use Rattle.grid.proofs.Chains.{last, join, back}
 use Rattle.sweep.specs.Marks as mk
-use Rattle.sweep.specs.Marks.{at, Spot, a-pin, a-point, val, Reach}
+use Rattle.sweep.specs.Marks.{at, Spot, a-pin, val, Reach}
 use Rattle.sweep.specs.Edges.{pinAt, Edges}
-use Rattle.sweep.proofs.Places.{spot, join-of, Found, found, node-once}
+use Rattle.sweep.proofs.Places.{spot, join-of, found, node-once}
 use Rattle.checker.specs.Check.{OnePiece, Broken}
 use Rattle.checker.specs.Marking.{First, Listed, Marking}
 

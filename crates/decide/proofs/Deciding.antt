@@ -92,9 +92,9 @@ module _ (g : Grid) (p : Pins) (X : List ℕ) where
   known-pin v e ne =
       ⊎-elim (λ z. absurd (ne (eqb-true v 0 z)))
       (λ z.
-        let r = any-yes (λ u. eqb (holds p x u) v) (pinNodes g) z in
-        let o = pin-mem g (r .1) in
-        (o .0, o .1, record { inside = o .2; net = sym (ap (holds p x) (o .3)) ∙ eqb-true (holds p x (r .0)) v (r .2) }))
+      let r = any-yes (λ u. eqb (holds p x u) v) (pinNodes g) z in
+      let o = pin-mem g (r .1) in
+      (o .0, o .1, record { inside = o .2; net = sym (ap (holds p x) (o .3)) ∙ eqb-true (holds p x (r .0)) v (r .2) }))
       (either (eqb v 0) (any (λ u. eqb (holds p x u) v) (pinNodes g)) e)
 
   not-foreign : (q : ℕ) → isKnown (getD X q 0) ≡ true → Foreign g p X q → ⊥
@@ -105,8 +105,8 @@ module _ (g : Grid) (p : Pins) (X : List ℕ) where
       record {
         metal = λ z. true≢false (sym (or-left (eqb (getD X q 0) 0) (any (λ u. eqb (holds p x u) (getD X q 0)) (pinNodes g)) (eq-eqb (getD X q 0) 0 z)) ∙ e);
         no-pin = λ s a i h.
-          true≢false (sym (or-right (eqb (getD X q 0) 0) (any (λ u. eqb (holds p x u) (getD X q 0)) (pinNodes g))
-          (yes-any (λ u. eqb (holds p x u) (getD X q 0)) (mem-pin g s a i) (eq-eqb (p s a) (getD X q 0) h))) ∙ e)
+            true≢false (sym (or-right (eqb (getD X q 0) 0) (any (λ u. eqb (holds p x u) (getD X q 0)) (pinNodes g))
+            (yes-any (λ u. eqb (holds p x u) (getD X q 0)) (mem-pin g s a i) (eq-eqb (p s a) (getD X q 0) h))) ∙ e);
       }
 
   module _ (long : 1 ≤ g .n) (wide : 1 ≤ g .w) (size : length X ≡ g .n * g .w * g .k) (numbered : Numbered g p) where
@@ -117,11 +117,12 @@ module _ (g : Grid) (p : Pins) (X : List ℕ) where
           number = inr (inl refl);
           place = λ e. absurd (omega arith);
           foreign = λ e. first;
-          broken = λ e. absurd (omega arith)
+          broken = λ e. absurd (omega arith);
         }
       where
         first : FirstForeign g p X foreignAt
         first = record { point = h; foreign = is-foreign foreignAt (first-bad isKnown X .found h); first = λ r l. not-foreign r (first-bad isKnown X .before r l) }
+
         spoilt : Legal g p x → ⊥
         spoilt legal =
             let (i, j, l, o, e) = point-at g long wide foreignAt (omega arith) in
@@ -152,7 +153,7 @@ module _ (g : Grid) (p : Pins) (X : List ℕ) where
             number = inr (inr refl);
             place = λ e. absurd (omega arith);
             foreign = λ e. absurd (omega arith);
-            broken = λ e. record { known = λ q h. not-foreign q (known q h); net = ne; broken = b; first = λ o nz h. pieces o nz (inr h) }
+            broken = λ e. record { known = λ q h. not-foreign q (known q h); net = ne; broken = b; first = λ o nz h. pieces o nz (inr h) };
           }
         where
           b : Broken g p x brokenNet
@@ -165,7 +166,7 @@ module _ (g : Grid) (p : Pins) (X : List ℕ) where
             number = inl refl;
             place = λ e. refl;
             foreign = λ e. absurd (omega arith);
-            broken = λ e. absurd (omega arith)
+            broken = λ e. absurd (omega arith);
           }
 
     pub decided : Judged g p X found
@@ -227,11 +228,11 @@ unfolding checkOf
 check-is t good w k first x y y′ r c =
     elim (ℕ-discrete (checkRefusal (t .answer) w k (length x) (length y) .number) 0) [
       | yes z ↦
-        let h = passed (t .answer) w k (length x) (length y) z in
-        let o = good (h .read) in
-        let g : Grid = checkGrid t w k first in
-        let d = decided g (pinsIn (t .pins)) x (o .columns .0) (h .width .0) (h .size) (λ s a i. o .numbered s a) in
-        rw (eq-eqb (checkRefusal (t .answer) w k (length x) (length y) .number) 0 z)
-        (judged-once g (pinsIn (t .pins)) x r (found g (pinsIn (t .pins)) x) (c .judged z) d)
+          let h = passed (t .answer) w k (length x) (length y) z in
+          let o = good (h .read) in
+          let g : Grid = checkGrid t w k first in
+          let d = decided g (pinsIn (t .pins)) x (o .columns .0) (h .width .0) (h .size) (λ s a i. o .numbered s a) in
+          rw (eq-eqb (checkRefusal (t .answer) w k (length x) (length y) .number) 0 z)
+          (judged-once g (pinsIn (t .pins)) x r (found g (pinsIn (t .pins)) x) (c .judged z) d)
       | no n ↦ rw (ne-eqb (checkRefusal (t .answer) w k (length x) (length y) .number) 0 n) (c .refused n .0)
     ]

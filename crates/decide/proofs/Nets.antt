@@ -10,7 +10,7 @@ use lib.ListN.{length}
 use borrow.Author.Tests.{eq-eqb, eqb-true}
 use Rattle.grid.specs.Grid.{Grid, Node, Joined}
 use Rattle.grid.specs.Legal.{Pins, Wiring, holds, Held, Linked, stay, step}
-use Rattle.grid.proofs.Chains.{last, join, back}
+use Rattle.grid.proofs.Chains.{join, back}
 use Rattle.checker.specs.Check.{OnePiece, Broken}
 use Rattle.decide.proofs.Search.{keep, mem-keep, keep-test, keep-mem, rest, taken, rest-mem, rest-sound, cover-frontier, cover, apart}
 use Rattle.decide.proofs.Tests.{either, or-left, or-right}
@@ -47,7 +47,7 @@ module _ (g : Grid) (p : Pins) (x : Wiring) (m : ℕ) where
   mem-held {u} h =
       record {
         inside = node-mem g (keep-mem (λ u. eqb (holds p x u) m) (nodes g) h);
-        net = eqb-true (holds p x u) m (keep-test (λ u. eqb (holds p x u) m) (nodes g) h)
+        net = eqb-true (holds p x u) m (keep-test (λ u. eqb (holds p x u) m) (nodes g) h);
       }
 
   module _ (f : Node) (U : List Node) (is : holding ≡ f ∷ U) where
@@ -86,8 +86,11 @@ module _ (g : Grid) (p : Pins) (x : Wiring) (m : ℕ) where
     left-broken : (b : Node) → Mem b (left g f U) → Broken g p x m
     left-broken b r =
         record {
-          one = f; other = b; held-one = held (head refl); held-other = held (tail (rest-mem (meets g) (suc (length U)) (f ∷ []) U r));
-          apart = λ l. true≢false (sym (or-right (joined g b b) (same b b) (same-refl b)) ∙ apart (meets g) (suc (length U)) (f ∷ []) U b b (linked-taken l) r)
+          one = f;
+          other = b;
+          held-one = held (head refl);
+          held-other = held (tail (rest-mem (meets g) (suc (length U)) (f ∷ []) U r));
+          apart = λ l. true≢false (sym (or-right (joined g b b) (same b b) (same-refl b)) ∙ apart (meets g) (suc (length U)) (f ∷ []) U b b (linked-taken l) r);
         }
 
     reached : isNil (left g f U) ≡ true → (z : Node) → Held g p x m z → Linked g p x m f z

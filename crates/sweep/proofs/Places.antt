@@ -1,18 +1,18 @@
 -- Where a node stands in the buffers, and that the edges by index are just the joins between nodes of the grid: both follow the grid's rows and layers.
 use Prim.Native.Nat.{ℕ, suc, _+_, _*_, _-_, _/_, _%_, _≤_, _<_}
-use mathlib.Core.Path.{_≡_, refl, sym, ap, ap₂, _∙_, subst, subst₂}
+use mathlib.Core.Path.{_≡_, refl, sym, ap, _∙_, subst}
 use mathlib.Core.Logic.{_⊎_, inl, inr, ⊎-map}
 use mathlib.Core.Bool.{Bool, true, false}
 use native.Mathlib.Omega.{arith}
 use native.Mathlib.Nat.{mul-comm, mul-one, zero-mul, div-add-mod', mod-lt, div-lt-iff-lt-mul}
-use lib.Dec.{ltb, eqb}
+use lib.Dec.{ltb}
 use borrow.Author.Tests.{ltb-true, lt-ltb, eq-eqb, ne-eqb, eqb-true, eqb-false}
 use Rattle.counting.specs.Counting.{In, bit}
-use Rattle.grid.specs.Grid.{Grid, Side, north, south, west, east, Node, pin, point, Horizontal, Vertical, places, Inside, Edge, along-column, along-track, via, north-pin, south-pin, west-pin, east-pin, Joined}
+use Rattle.grid.specs.Grid.{Grid, Side, north, south, west, east, Node, pin, point, places, Inside, Edge, along-column, along-track, via, north-pin, south-pin, west-pin, east-pin, Joined}
 use Rattle.grid.specs.Legal.{index}
 use Rattle.grid.proofs.Buffer.{index-is, index-once}
 use Rattle.sweep.specs.Marks.{Spot, a-pin, a-point}
-use Rattle.sweep.specs.Edges.{pinAt, horizontal, Run, Along, LayerOf, Points, Ends, EndsOf, Edges}
+use Rattle.sweep.specs.Edges.{pinAt, horizontal, Run, Along, Ends, Edges}
 use Rattle.sweep.proofs.Offsets.{rows-in, next-row}
 
 abbrev pub spot : Grid → Node → Spot

@@ -1,5 +1,5 @@
 -- Sweeps compose: what two runs over edges do one after the other is one sweep over the edges of both, because a run adds only marks that no run goes on from.
-use Prim.Native.Nat.{ℕ, zero, suc, _+_, _<_}
+use Prim.Native.Nat.{ℕ, _+_, _≤_, _<_}
 use mathlib.Core.Path.{_≡_, refl, sym, ap, _∙_, subst}
 use mathlib.Core.Logic.{_⊎_, inl, inr, _≢_, ⊎-elim}
 use mathlib.Core.List.{List}
@@ -7,8 +7,8 @@ use native.Mathlib.Omega.{arith}
 use native.Mathlib.Decide.{ℕ-discrete}
 use lib.ListN.{length, set}
 use lib.Seq.{getD-set-same}
-use Rattle.sweep.specs.Marks.{at, Spot, a-pin, a-point, val, State, one, two, zeros, Reach, here, on, back, Shut, Added, Swept, Grown, Settled}
-use Rattle.sweep.specs.Edges.{Only, Below, Inner}
+use Rattle.sweep.specs.Marks.{at, Spot, a-pin, a-point, val, State, one, two, back, Shut, Added, Swept}
+use Rattle.sweep.specs.Edges.{Only, Below, Inner, AllShut}
 use Rattle.sweep.proofs.Zeros.{zeros-set, elsewhere}
 
 -- σ′ is σ with a new mark at i
@@ -175,11 +175,32 @@ inner p x s m m′ {E} {c} r = record { each = each; full = full; still = still;
     still z (a-pin a) = refl
     still z (a-point q) = r .still z q
 
--- what holds of the edges below top, and of those at top, holds of those below top + 1
-pub below-each : {A : Type 0} (P : A → A → Type 0) (F : ℕ → A → A → Type 0) (top : ℕ)
-    → ((a b : A) → Below F top a b → P a b) → ((a b : A) → F top a b → P a b) → (a b : A) → Below F (top + 1) a b → P a b
-below-each P F top s t a b e =
-    elim (ℕ-discrete (e .0) top) [ yes p ↦ t a b (subst (λ (i : ℕ). F i a b) p (e .2)) | no n ↦ s a b (e .0, omega (arith, e .1), e .2) ]
+-- ---- edges that ask for no mark
+
+module _ (x m : List ℕ) (start : ℕ) where
+  pub all-none : (gap : ℕ) → AllShut x m start 0 gap 0
+  all-none gap = record { none = λ z a b e. absurd (omega (arith, e .1)); some = λ f. refl }
+
+  abbrev Quiet : ℕ → ℕ → Type 0
+  Quiet a b = Shut (at x a) (at x b) (at m a) (at m b) (at m a) (at m b)
+
+  -- one more edge, of which o says whether it asks
+  pub all-more : (t gap found o r : ℕ) → AllShut x m start t gap found → (o ≡ 0 → Quiet (start + t) (start + t + gap)) × (Quiet (start + t) (start + t + gap) → o ≡ 0)
+      → (found ≤ r) × (o ≤ r) × ((r ≡ found) ⊎ (r ≡ o)) → AllShut x m start (t + 1) gap r
+  all-more t gap found o r s h (i, j, k) =
+      record {
+        none = λ z a b e. elim (ℕ-discrete (e .0) t) [
+          | yes q ↦ rw (e .2 .0, e .2 .1, q) (h .0 (omega arith))
+          | no n ↦ s .none (omega arith) a b (e .0, omega (arith, e .1), e .2)
+        ];
+        some = λ f. (
+            let u : found ≡ 0 = s .some (λ a b e. f a b (e .0, omega (arith, e .1), e .2)) in
+            let v : o ≡ 0 = h .1 (f (start + t) (start + t + gap) (t, omega arith, (refl, refl))) in
+            ⊎-elim (λ e. e ∙ u) (λ e. e ∙ v) k);
+      }
+
+  pub all-shut : (t count gap r : ℕ) → t ≡ count → AllShut x m start t gap r → AllShut x m start count gap r
+  all-shut t count gap r e s = subst (λ (c : ℕ). AllShut x m start c gap r) e s
 
 pub swept-at : {I A : Type 0} {v : A → ℕ} {σ σ′ : State A} {c : ℕ} (F : I → A → A → Type 0) (i j : I) → i ≡ j → Swept v σ σ′ (F i) c → Swept v σ σ′ (F j) c
 swept-at {I} {v} {σ} {σ′} {c} F i j e s = subst (λ (u : I). Swept v σ σ′ (F u) c) e s

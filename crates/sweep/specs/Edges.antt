@@ -12,6 +12,7 @@
 --   PinRun first start gap count  from each of count pins from first on, to the points from start on in steps of gap
 --   Ends, Pins         from the pins that a layer at q touches, and from all pins
 --   Edges g            all edges
+--   AllShut x m .. r   no edge of a run asks for a mark, just where r is 0
 --   Shape f            the counts are those that Check takes
 --   Fits f p s x m     the lengths of the pin list, its marks, the points and their marks
 --   LayerFits, PointsFit, SideFits, EndsFit    what the inner loops ask of these lengths
@@ -19,11 +20,12 @@ use Prim.Native.Nat.{ℕ, _+_, _*_, _-_, _%_, _<_, _≤_}
 use mathlib.Core.Bool.{Bool, true, false}
 use mathlib.Core.Path.{_≡_}
 use mathlib.Core.Logic.{_⊎_}
+use mathlib.Core.List.{List}
 use lib.Dec.{ltb, eqb}
 use Rattle.grid.specs.Grid.{Grid, Side, north, south, west, east}
 use Rattle.grid.specs.View.{longestSide, mostLayers}
 use Rattle.counting.specs.Counting.{In}
-use Rattle.sweep.specs.Marks.{Spot, a-pin, a-point}
+use Rattle.sweep.specs.Marks.{at, Spot, a-pin, a-point, Shut}
 use Rattle.sweep.specs.declared.Frame.{Frame}
 
 abbrev pub gridOf : Frame → Grid
@@ -96,6 +98,10 @@ pub record LayerFits (x q n w : ℕ) (above : Bool) : Type 0 where
   pub wide : 1 ≤ w
   pub own : q + n * w ≤ x
   pub next : above ≡ true → q + n * w + n * w ≤ x
+
+pub record AllShut (x m : List ℕ) (start count gap r : ℕ) : Type 0 where
+  pub none : r ≡ 0 → (a b : ℕ) → Run start count gap a b → Shut (at x a) (at x b) (at m a) (at m b) (at m a) (at m b)
+  pub some : ((a b : ℕ) → Run start count gap a b → Shut (at x a) (at x b) (at m a) (at m b) (at m a) (at m b)) → r ≡ 0
 
 pub record Shape (f : Frame) : Type 0 where
   pub long : In (f .n) longestSide

@@ -2,10 +2,11 @@
 // numbers. Points and their marks stand in the buffer's order; the pins of the four sides, and their marks, in lists of 360.
 ghost use mathlib.Core.Path.{_≡_};
 ghost use mathlib.Core.Bool.{true};
+ghost use mathlib.Core.Logic.{_⊎_};
 ghost use Prim.Native.Nat.{ℕ, _+_, _*_, _-_, _≤_, _<_};
 ghost use lib.ListN.{length};
 ghost use Rattle.sweep.specs.Marks.{at, a-pin, a-point, val, one, two, Shut, Swept, Aged, Settled};
-ghost use Rattle.sweep.specs.Edges.{gridOf, horizontal, Only, When, Run, Rows, Layer, Points, PinRun, Ends, Pins, Edges, LayerFits, PointsFit, SideFits, EndsFit, Fits};
+ghost use Rattle.sweep.specs.Edges.{gridOf, horizontal, Only, When, Run, Rows, Layer, Points, PinRun, Ends, Pins, Edges, LayerFits, PointsFit, SideFits, EndsFit, Fits, AllShut};
 
 // The grid's counts, and whether its first layer is horizontal.
 pub struct Frame {
@@ -27,7 +28,7 @@ pub fn is_horizontal(l: usize, first: bool) -> bool
 
 // 1 where an edge between two points asks for a mark: they hold the same, one was reached before and the other has no mark.
 fn open(va: u8, vb: u8, ma: u8, mb: u8) -> u8
-    ensures { λ r. ⌜ (r ≡ 0 → Shut va vb ma mb ma mb) ⌝ }
+    ensures { λ r. ⌜ (r ≡ 0 → Shut va vb ma mb ma mb) × (Shut va vb ma mb ma mb → r ≡ 0) ⌝ }
 {
     if va != vb {
         return 0;
@@ -45,15 +46,15 @@ fn open(va: u8, vb: u8, ma: u8, mb: u8) -> u8
 }
 
 fn larger(a: u8, b: u8) -> u8
-    ensures { λ r. ⌜ (a ≤ r) × (b ≤ r) ⌝ }
+    ensures { λ r. ⌜ (a ≤ r) × (b ≤ r) × ((r ≡ a) ⊎ (r ≡ b)) ⌝ }
 {
     if a < b { b } else { a }
 }
 
-// 0 where no edge of a run asks for a mark. It only reads, so that the compiler can take many points at a time.
+// 0 where no edge of a run asks for a mark, else more. It only reads, so that the compiler can take many points at a time.
 fn any_open(x: &[u8], m: &[u8], start: usize, count: usize, gap: usize) -> u8
     requires { ⌜ (start + count + gap ≤ length (now x)) × (length (now x) ≤ length (now m)) ⌝ }
-    ensures { λ r. ⌜ (r ≡ 0 → (a b : ℕ) → Run start count gap a b → Shut (at (now (x .entry)) a) (at (now (x .entry)) b) (at (now (m .entry)) a) (at (now (m .entry)) b) (at (now (m .entry)) a) (at (now (m .entry)) b)) ⌝ }
+    ensures { λ r. ⌜ AllShut (now (x .entry)) (now (m .entry)) start count gap r ⌝ }
 {
     let mut found: u8 = 0;
     for t in 0..count {

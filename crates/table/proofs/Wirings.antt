@@ -2,15 +2,20 @@
 use Prim.Native.Nat.{ℕ}
 use mathlib.Core.Bool.{true, false}
 use mathlib.Core.List.{List, [], _∷_}
-use mathlib.Core.Path.{_≡_, refl}
-use lib.ListN.{replicate}
+use mathlib.Core.Path.{_≡_, refl, ap, _∙_, subst}
+use native.Mathlib.Omega.{arith}
+use lib.ListN.{length, replicate}
 use Rattle.counting.specs.Counting.{sum}
+use Rattle.grid.specs.Grid.{upright}
+use Rattle.grid.specs.Legal.{Legal, wiringOf}
 use Rattle.ticket.specs.declared.Ticket.{Ticket}
-use Rattle.ticket.specs.Format.{goodMap, pinNet, listed, sideNets, pinCount, least}
+use Rattle.ticket.specs.Format.{goodMap, pinNet, listed, sideNets, pinsIn, pinCount, least}
+use Rattle.ticket.specs.Good.{Good}
 use Rattle.ticket.specs.Read.{unless, fieldsOf, headerOf, netsOf, sideOf, after, northEnd, southEnd, westEnd, eastEnd, ticketOf}
+use Rattle.ticket.proofs.Good.{read-good}
 use Rattle.checker.specs.declared.CheckAnswer.{CheckAnswer}
-use Rattle.checker.specs.Check.{refusal, checkRefusal}
-use Rattle.decide.proofs.Deciding.{checkOf}
+use Rattle.checker.specs.Check.{refusal, checkRefusal, Checked}
+use Rattle.decide.proofs.Deciding.{decided, checkOf, check-is}
 
 -- "row n 2, north 1 1", "row n 3, north 1 1 empty"
 abbrev row2 : List ℕ
@@ -48,3 +53,17 @@ answers two three =
 pub wirings : answers (ticketOf row2) (ticketOf row3) ≡ refusal 0 0 ∷ refusal 15 1 ∷ refusal 15 1 ∷ refusal 15 1 ∷ []
 unfolding checkRefusal checkOf
 wirings = rw (read2, read3) refl
+
+good2 : Good (twoPins 2)
+good2 = subst Good read2 (read-good row2 (ap (λ (t : Ticket). t .answer .number) read2))
+
+-- K1, by the definition itself
+pub legal : Legal (upright 2 1 2) (pinsIn (twoPins 2 .pins)) (wiringOf (upright 2 1 2) (1 ∷ 1 ∷ 1 ∷ 1 ∷ []))
+legal =
+    decided (upright 2 1 2) (pinsIn (twoPins 2 .pins)) (1 ∷ 1 ∷ 1 ∷ 1 ∷ []) (omega arith) (omega arith) refl (λ s a i. good2 .numbered s a) .accepts .0 refl
+
+-- and by Check's promise, with a scratch of four bytes
+pub checked : (y y′ : List ℕ) (r : CheckAnswer) → length y ≡ 4 → Checked (ticketOf row2) 1 2 false (1 ∷ 1 ∷ 1 ∷ 1 ∷ []) y y′ r → r ≡ refusal 0 0
+unfolding checkRefusal checkOf
+checked y y′ r e c =
+    check-is (ticketOf row2) (read-good row2) 1 2 false (1 ∷ 1 ∷ 1 ∷ 1 ∷ []) y y′ r c ∙ ap (checkOf (ticketOf row2) 1 2 false (1 ∷ 1 ∷ 1 ∷ 1 ∷ [])) e ∙ rw read2 refl

@@ -14,7 +14,7 @@ use Rattle.sweep.specs.declared.Frame.{Frame}
 use Rattle.sweep.proofs.Zeros.{elsewhere}
 use Rattle.sweep.proofs.Settling.{grown-none, grown-then}
 use Rattle.walk.specs.declared.Cell.{Cell}
-use Rattle.walk.specs.Walk.{On, Tip, Stepped, Took, Claimed, Moved, Met, Pinned, Ready}
+use Rattle.walk.specs.Walk.{On, Tip, Stepped, Claimed, Moved, Met, Pinned, Ready}
 use Rattle.walk.proofs.Steps.{small, tip-edge}
 
 -- one more mark, at b, which is reached

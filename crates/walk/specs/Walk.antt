@@ -18,7 +18,7 @@ use mathlib.Core.Bool.{Bool, true, false}
 use mathlib.Core.List.{List}
 use lib.ListN.{length, set}
 use Rattle.grid.specs.Grid.{Grid}
-use Rattle.sweep.specs.Marks.{at, a-pin, a-point, val, two, Grown}
+use Rattle.sweep.specs.Marks.{at, a-point, val, two, Grown}
 use Rattle.sweep.specs.Edges.{gridOf, Edges, PointsFit}
 use Rattle.sweep.specs.declared.Frame.{Frame}
 use Rattle.walk.specs.declared.Cell.{Cell}

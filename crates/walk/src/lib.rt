@@ -6,9 +6,9 @@
 ghost use mathlib.Core.Path.{_≡_};
 ghost use mathlib.Core.Logic.{_≢_};
 ghost use mathlib.Core.Bool.{true, false};
-ghost use Prim.Native.Nat.{ℕ, _+_, _*_, _≤_, _<_};
+ghost use Prim.Native.Nat.{_+_, _*_, _≤_, _<_};
 ghost use lib.ListN.{length};
-ghost use Rattle.sweep.specs.Marks.{at, a-pin, a-point, val, two, Grown};
+ghost use Rattle.sweep.specs.Marks.{at, val, two, Grown};
 ghost use Rattle.sweep.specs.Edges.{gridOf, horizontal, Edges, Shape, Fits};
 ghost use Rattle.walk.specs.Walk.{On, Tip, Stepped, Claimed, Moved, Met, Walked, Ready, Pinned};
 use sweep::Frame;
@@ -347,7 +347,7 @@ fn touch_of(a: usize, f: Frame) -> Touch
 
 // Whether layer l + 1 has the direction asked for.
 fn is_of(l: usize, first: bool, flat: bool) -> bool
-    ensures { λ r. ⌜ (r ≡ true → horizontal first l ≡ flat) ⌝ }
+    ensures { λ r. ⌜ (r ≡ true → horizontal first l ≡ flat) × (horizontal first l ≡ flat → r ≡ true) ⌝ }
 {
     if sweep::is_horizontal(l, first) {
         return flat;

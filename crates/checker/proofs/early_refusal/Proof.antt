@@ -1,7 +1,6 @@
 -- `checker::early_refusal` meets its contract: the tests come in the order of the definition, and the product is taken of counts that passed theirs.
 use mathlib.Core.Path.{sym, _∙_}
 use borrow.Author.Needs.{needs}
-use native.Mathlib.Omega.{arith}
 use borrow.Author.Tests.{eq-eqb, ne-eqb, le-leb, lt-leb}
 use Rattle.checker.specs.Check.{checkRefusal}
 use Rattle.checker.proofs.Refusals.{counts}

@@ -4,14 +4,12 @@ use mathlib.Core.Path.{_≡_, sym, ap, _∙_}
 use mathlib.Core.Logic.{_≢_}
 use borrow.Author.Needs.{needs}
 use native.Mathlib.Omega.{arith}
-use native.Mathlib.Nat.{zero-mul, mul-comm}
+use native.Mathlib.Nat.{zero-mul}
 use borrow.Author.Count.{below-more}
-use borrow.Author.Tests.{ltb-true, ltb-false}
 use lib.ListN.{length}
 use denote.Ref.{now}
 use Rattle.sweep.specs.Marks.{at}
 use Rattle.sweep.proofs.Offsets.{rows-in, next-row, all-rows}
-use Rattle.checker.specs.Marking.{FirstUnknown}
 use Rattle.checker.proofs.first_unknown.Statement.{statement}
 use Rattle.checker.proofs.first_unknown.Tie as tie
 

@@ -1,11 +1,9 @@
 -- `checker::judge` meets its contract: the first unknown number is foreign, the lowest net left out is broken, and where there is neither the wiring is legal.
-use mathlib.Core.Path.{_≡_, sym, ap, _∙_, subst}
+use mathlib.Core.Path.{sym, ap, _∙_, subst}
 use borrow.Author.Needs.{needs}
 use native.Mathlib.Omega.{arith}
-use lib.ListN.{length}
 use denote.Ref.{now}
 use Rattle.sweep.specs.Edges.{gridOf}
-use Rattle.checker.specs.declared.CheckAnswer.{CheckAnswer}
 use Rattle.checker.specs.Check.{refusal, Judged}
 use Rattle.checker.proofs.Scans.{all-firsts}
 use Rattle.checker.proofs.Answers.{judged-foreign, judged-legal, judged-broken}

@@ -1,5 +1,5 @@
 -- `checker::open_nets` meets its contract: of the pins passed, the table has the nets and the marks the first pins.
-use Prim.Native.Nat.{ℕ, _≤_, _-_}
+use Prim.Native.Nat.{_≤_, _-_}
 use mathlib.Core.Path.{_≡_, refl}
 use borrow.Author.Needs.{needs}
 use native.Mathlib.Omega.{arith}

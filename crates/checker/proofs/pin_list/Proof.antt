@@ -1,7 +1,5 @@
 -- `checker::pin_list` meets its contract: side by side.
 use borrow.Author.Needs.{needs}
-use native.Mathlib.Omega.{arith}
-use mathlib.Core.Path.{_≡_}
 use Prim.Native.Nat.{ℕ}
 use lib.ListN.{length-replicate}
 use Rattle.checker.proofs.Lists.{pin-list}

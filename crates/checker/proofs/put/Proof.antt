@@ -1,9 +1,7 @@
 -- `checker::put` meets its contract: the places passed are the side's, the others as they were.
-use Prim.Native.Nat.{ℕ, _≤_, _-_}
-use mathlib.Core.Path.{_≡_}
+use Prim.Native.Nat.{_≤_, _-_}
 use borrow.Author.Needs.{needs}
 use native.Mathlib.Omega.{arith}
-use lib.ListN.{length}
 use Rattle.checker.proofs.Lists.{Putting, putting-start, putting-more, putting-end}
 use Rattle.checker.proofs.put.Statement.{statement}
 use Rattle.checker.proofs.put.Tie as tie

@@ -1,7 +1,6 @@
 -- `checker::torn` meets its contract: the marks begin with the first pins, grow by walks and settle by sweeps.
 use borrow.Author.Needs.{needs}
 use native.Mathlib.Omega.{arith}
-use mathlib.Core.Path.{_∙_}
 use denote.Ref.{now}
 use Rattle.sweep.proofs.Settling.{settled-after}
 use Rattle.checker.proofs.torn.Statement.{statement}

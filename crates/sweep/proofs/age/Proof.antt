@@ -1,10 +1,9 @@
 -- `sweep::age` meets its contract: the entries passed have aged, the others are as they were.
-use Prim.Native.Nat.{ℕ, _≤_, _-_}
+use Prim.Native.Nat.{_≤_, _-_}
 use mathlib.Core.Path.{_≡_}
 use borrow.Author.Needs.{needs}
 use native.Mathlib.Omega.{arith}
-use lib.ListN.{length, length-set}
-use denote.Ref.{now}
+use lib.ListN.{length}
 use Rattle.sweep.proofs.Ageing.{Ageing, ageing-start, ageing-more, ageing-end}
 use Rattle.sweep.proofs.age.Statement.{statement}
 use Rattle.sweep.proofs.age.Tie as tie

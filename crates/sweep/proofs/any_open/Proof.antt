@@ -1,28 +1,21 @@
--- `sweep::any_open` meets its contract: while nothing is found, every edge passed is shut.
-use Prim.Native.Nat.{ℕ, _≤_, _-_, _+_}
-use mathlib.Core.Path.{_≡_}
+-- `sweep::any_open` meets its contract: what is found of the edges passed is 0 just where all of them are shut.
+use Prim.Native.Nat.{_≤_, _-_}
 use borrow.Author.Needs.{needs}
 use native.Mathlib.Omega.{arith}
-use mathlib.Core.List.{List}
-use lib.ListN.{length}
 use denote.Ref.{now}
-use Rattle.sweep.specs.Marks.{at, Shut}
-use Rattle.sweep.specs.Edges.{Run, Only}
-use Rattle.sweep.proofs.Sweeping.{below-each}
+use Rattle.sweep.specs.Edges.{AllShut}
+use Rattle.sweep.proofs.Sweeping.{all-none, all-more, all-shut}
 use Rattle.sweep.proofs.any_open.Statement.{statement}
 use Rattle.sweep.proofs.any_open.Tie as tie
 
-abbrev Asked : List ℕ → List ℕ → ℕ → ℕ → Type 0
-Asked x m a b = Shut (at x a) (at x b) (at m a) (at m b) (at m a) (at m b)
-
 abbrev Inv-loop : tie.InvT-loop
-Inv-loop x m start count gap found₀ t₀ found t = (t ≤ count) × (found ≡ 0 → (a b : ℕ) → Run start t gap a b → Asked x m a b)
+Inv-loop x m start count gap found₀ t₀ found t = (t ≤ count) × AllShut x m start t gap found
 
 abbrev μ-loop : tie.MeasureT-loop
 μ-loop x m start count gap found₀ t₀ found t = count - t
 
 loop-holds : tie.Need-loop-holds Inv-loop μ-loop
-loop-holds c = (search needs, λ z a b e. absurd (omega (arith, e .1)))
+loop-holds c = (search needs, all-none _ _ _ _)
 
 add-a : tie.Need-add-a Inv-loop μ-loop
 add-a c = search needs
@@ -58,10 +51,12 @@ loop-again : tie.Need-loop-again Inv-loop μ-loop
 loop-again c =
     let args = c .before .before .before .before .before .before .before .before .before .before .args in
     let loop = c .before .before .before .before .before .before .before .loop in
-    (search needs, λ z. below-each (Asked (now (args .x)) (now (args .m))) _ (loop .t) (loop .inv .1 (omega arith)) (λ a b e. rw (e .0, e .1) (c .before .«open» .ensures (omega arith))))
+    let opened = c .before .«open» in
+    let larger = c .larger in
+    (search needs, all-more (now (args .x)) (now (args .m)) (args .start) (loop .t) (args .gap) (loop .found) (opened .result) (larger .result) (loop .inv .1) (opened .ensures) (larger .ensures))
 
 returns : tie.Need-returns Inv-loop μ-loop
-returns c = λ z a b e. c .before .loop .inv .1 z a b (e .0, omega (arith, e .1), e .2)
+returns c = all-shut _ _ _ _ _ _ _ (omega arith) (c .before .loop .inv .1)
 
 pub any-open-spec : {M : Type 1} → statement M
 any-open-spec =

@@ -11,7 +11,7 @@ same-length : tie.Need-same-length
 same-length c = search needs
 
 returns : tie.Need-returns
-returns c = swept-quiet _ (c .before .any-open .ensures (c .if1 .taken))
+returns c = swept-quiet _ (c .before .any-open .ensures .none (c .if1 .taken))
 
 mark-run-requires : tie.Need-mark-run-requires
 mark-run-requires c κs = search needs

@@ -1,10 +1,9 @@
 -- `sweep::settle` meets its contract. Each sweep that goes on makes a mark, so the spots without one become fewer.
-use Prim.Native.Nat.{ℕ, _+_, min}
+use Prim.Native.Nat.{_+_, min}
 use mathlib.Core.Path.{_≡_}
 use borrow.Author.Needs.{needs}
 use native.Mathlib.Omega.{arith}
 use lib.ListN.{length}
-use denote.Ref.{now}
 use Rattle.sweep.specs.Marks.{val, two, zeros}
 use Rattle.sweep.specs.Edges.{gridOf, Edges}
 use Rattle.sweep.proofs.Ageing.{zeros-aged, aged-two}

@@ -2,7 +2,6 @@
 use borrow.Author.Needs.{needs}
 use native.Mathlib.Omega.{arith}
 use denote.Ref.{now}
-use mathlib.Core.Path.{_≡_}
 use Rattle.sweep.specs.Marks.{a-pin, a-point}
 use Rattle.sweep.proofs.Sweeping.{only-quiet, only-first, only-second, marked-pin, marked-point}
 use Rattle.sweep.proofs.touch.Statement.{statement}

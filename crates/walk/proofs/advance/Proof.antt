@@ -1,7 +1,6 @@
 -- `walk::advance` meets its contract: each direction's step does.
 use mathlib.Core.Path.{refl}
 use borrow.Author.Needs.{needs}
-use native.Mathlib.Omega.{arith}
 use denote.Ref.{now}
 use Rattle.sweep.proofs.Settling.{grown-none, grown-then}
 use Rattle.walk.proofs.Growing.{within}

@@ -1,5 +1,5 @@
 -- `walk::ahead` meets its contract: one step along the track of a horizontal layer or the column of a vertical one.
-use mathlib.Core.Path.{refl, sym, _∙_}
+use mathlib.Core.Path.{sym, _∙_}
 use borrow.Author.Needs.{needs}
 use native.Mathlib.Omega.{arith}
 use Rattle.sweep.specs.Edges.{gridOf}

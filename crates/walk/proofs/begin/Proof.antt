@@ -45,7 +45,7 @@ returns c =
     let is-of = c .before .before .before .before .before .before .before .before .before .before .before .before .before .before .is-of in
     let if1 = c .before .before .before .before .before .before .before .before .before .before .before .before .before .if1 in
     let walk = c .before .before .before .before .walk in
-    grown-then (begun (gridOf (start .args .f)) (now (start .args .p)) (now (start .args .s)) (now (start .args .x)) (now (start .args .m)) (claim .last .1 .0) (start .args .a) (start .args .c) (start .args .flat) _ (start .pre .1) (is-of .ensures (if1 .taken)) (claim .ensures) (within (start .args .f) (now (start .args .x)) (now (start .args .m)) (start .args .c) (start .pre .0 .points) (start .pre .1 .cell) .1)) (walk .ensures)
+    grown-then (begun (gridOf (start .args .f)) (now (start .args .p)) (now (start .args .s)) (now (start .args .x)) (now (start .args .m)) (claim .last .1 .0) (start .args .a) (start .args .c) (start .args .flat) _ (start .pre .1) (is-of .ensures .0 (if1 .taken)) (claim .ensures) (within (start .args .f) (now (start .args .x)) (now (start .args .m)) (start .args .c) (start .pre .0 .points) (start .pre .1 .cell) .1)) (walk .ensures)
 
 same-length-3 : tie.Need-same-length-3
 same-length-3 c = search needs
@@ -56,7 +56,7 @@ returns-2 c =
     let claim = c .before .before .before .claim in
     let is-of = c .before .before .before .before .before .before .before .is-of in
     let if1 = c .before .before .before .before .before .before .if1 in
-    begun (gridOf (start .args .f)) (now (start .args .p)) (now (start .args .s)) (now (start .args .x)) (now (start .args .m)) (claim .last .1 .0) (start .args .a) (start .args .c) (start .args .flat) _ (start .pre .1) (is-of .ensures (if1 .taken)) (claim .ensures) (within (start .args .f) (now (start .args .x)) (now (start .args .m)) (start .args .c) (start .pre .0 .points) (start .pre .1 .cell) .1)
+    begun (gridOf (start .args .f)) (now (start .args .p)) (now (start .args .s)) (now (start .args .x)) (now (start .args .m)) (claim .last .1 .0) (start .args .a) (start .args .c) (start .args .flat) _ (start .pre .1) (is-of .ensures .0 (if1 .taken)) (claim .ensures) (within (start .args .f) (now (start .args .x)) (now (start .args .m)) (start .args .c) (start .pre .0 .points) (start .pre .1 .cell) .1)
 
 returns-3 : tie.Need-returns-3
 returns-3 c = grown-none

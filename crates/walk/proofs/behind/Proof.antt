@@ -1,7 +1,6 @@
 -- `walk::behind` meets its contract: one step back along the track of a horizontal layer or the column of a vertical one.
-use mathlib.Core.Path.{refl, sym, _∙_}
+use mathlib.Core.Path.{sym, _∙_}
 use borrow.Author.Needs.{needs}
-use native.Mathlib.Omega.{arith}
 use Rattle.sweep.specs.Edges.{gridOf}
 use Rattle.walk.proofs.Steps.{stay, step-left, step-back, row-before}
 use Rattle.walk.proofs.behind.Statement.{statement}

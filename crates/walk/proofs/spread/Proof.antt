@@ -1,5 +1,4 @@
 -- `walk::spread` meets its contract: round by round.
-use Prim.Native.Nat.{ℕ}
 use mathlib.Core.Path.{_≡_, refl}
 use borrow.Author.Needs.{needs}
 use native.Mathlib.Omega.{arith}

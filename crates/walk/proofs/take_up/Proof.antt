@@ -3,9 +3,8 @@ use borrow.Author.Needs.{needs}
 use native.Mathlib.Omega.{arith}
 use lib.ListN.{length-set}
 use lib.Seq.{getD-set-same}
-use mathlib.Core.Path.{_≡_, sym, _∙_}
+use mathlib.Core.Path.{_∙_}
 use denote.Ref.{now}
-use Rattle.sweep.specs.Marks.{at}
 use Rattle.sweep.proofs.Settling.{grown-none, grown-then}
 use Rattle.walk.proofs.Growing.{remarked}
 use Rattle.walk.proofs.take_up.Statement.{statement}

@@ -1,10 +1,8 @@
 -- `walk::walk` meets its contract: each step leaves what is marked reached. The measure is the steps left.
-use Prim.Native.Nat.{ℕ}
 use mathlib.Core.Path.{_≡_, refl}
 use borrow.Author.Needs.{needs}
 use native.Mathlib.Omega.{arith}
 use lib.ListN.{length}
-use denote.Ref.{now}
 use Rattle.sweep.specs.Marks.{val, two, Grown}
 use Rattle.sweep.specs.Edges.{gridOf, Edges}
 use Rattle.sweep.proofs.Settling.{grown-none, grown-then}

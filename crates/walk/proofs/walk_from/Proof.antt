@@ -1,12 +1,11 @@
 -- `walk::walk_from` meets its contract: layer by layer; q is where the pin's point on the next layer stands.
-use Prim.Native.Nat.{ℕ, _+_, _*_, _-_, _≤_}
+use Prim.Native.Nat.{_+_, _*_, _-_, _≤_}
 use mathlib.Core.Path.{_≡_, refl}
 use mathlib.Core.Logic.{_≢_}
 use borrow.Author.Needs.{needs}
 use native.Mathlib.Omega.{arith}
 use native.Mathlib.Nat.{zero-mul}
 use lib.ListN.{length}
-use denote.Ref.{now}
 use Rattle.sweep.specs.Marks.{at, a-pin, val, two, Grown}
 use Rattle.sweep.specs.Edges.{gridOf, Edges}
 use Rattle.sweep.proofs.Offsets.{next-row}

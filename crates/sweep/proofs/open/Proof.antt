@@ -1,0 +1,35 @@
+-- `sweep::open` meets its contract: an edge asks for a mark just where the marks are 0 and 1.
+use Prim.Native.Nat.{ℕ, _≤_}
+use mathlib.Core.Path.{_≡_, sym, _∙_}
+use mathlib.Core.Logic.{_≢_}
+use borrow.Author.Needs.{needs}
+use native.Mathlib.Omega.{arith}
+use native.Mathlib.Decide.{ℕ-discrete}
+use Rattle.sweep.specs.Marks.{Shut}
+use Rattle.sweep.proofs.open.Statement.{statement}
+use Rattle.sweep.proofs.open.Tie as tie
+
+asks : (va vb ma mb : ℕ) → va ≡ vb → (ma ≡ mb → ⊥) → ma ≤ 1 → mb ≤ 1 → Shut va vb ma mb ma mb → ⊥
+asks va vb ma mb e n a b s =
+    elim (ℕ-discrete ma 0) [
+      | yes z ↦ s .back e (let h : mb ≢ 0 = λ q. n (z ∙ sym q) in omega arith) z
+      | no o ↦ s .there e (omega arith) (let h : mb ≢ 1 = λ q. n (omega arith) in omega arith)
+    ]
+
+returns : tie.Need-returns
+returns c = search needs
+
+returns-2 : tie.Need-returns-2
+returns-2 c = search needs
+
+returns-3 : tie.Need-returns-3
+returns-3 c = search needs
+
+returns-4 : tie.Need-returns-4
+returns-4 c = search needs
+
+returns-5 : tie.Need-returns-5
+returns-5 c = (λ z. absurd (omega arith), λ s. absurd (asks _ _ _ _ (c .before .before .before .if1 .left) (c .before .before .if2 .left) (omega arith) (omega arith) s))
+
+pub open-spec : {M : Type 1} → statement M
+open-spec = tie.close (tie.spec returns returns-2 returns-3 returns-4 returns-5)
