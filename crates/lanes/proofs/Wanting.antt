@@ -1,14 +1,37 @@
 -- The nets that get a track are found one after another: those passed have their entries, and the turn of the pairs is known.
 use Prim.Native.Nat.{ℕ, _+_, _≤_, _<_}
 use mathlib.Core.Path.{_≡_, refl, ap, _∙_}
+use mathlib.Core.Logic.{by-cases}
 use mathlib.Core.List.{List}
-use mathlib.Core.Bool.{Bool, false, not, cond}
+use mathlib.Core.Bool.{Bool, true, false, not, cond, _&&_, _||_}
 use native.Mathlib.Omega.{arith}
 use native.Mathlib.Numerals.{add-one}
 use native.Mathlib.Decide.{ℕ-discrete}
+use lib.Dec.{leb, eqb}
 use lib.ListN.{length, getD, set, replicate}
 use lib.Seq.{getD-set-same, getD-set-other}
-use Rattle.switchbox_law.specs.Rules.{Tally, alternate, gets, pair, wanted}
+use Rattle.grid.specs.Grid.{north, south, west, east}
+use Rattle.switchbox_law.specs.Rules.{Tally, corner, alternate, gets, pair, wanted}
+
+-- the entries of the nets before k are right
+abbrev pub Told : (ℕ → Bool) → List Bool → ℕ → Type 0
+Told f out k = (m : ℕ) → m < k → getD out m false ≡ f m
+
+pub told-more : (f : ℕ → Bool) (out : List Bool) (k : ℕ) (r : Bool) → length out ≡ 181 → k < 181 → r ≡ f k → Told f out k → Told f (set out k r) (k + 1)
+told-more f out k r len b e old m l = by-cases (ℕ-discrete m k)
+    (λ d. rw d (getD-set-same out k r false (omega arith) ∙ e))
+    (λ d. getD-set-other out k m r false d ∙ old m (omega (arith, d)))
+
+-- the rule of the pairs' turns, apart from the others
+turn-apart : (x p mine : Bool) → ((x || (p && false)) || (p && mine)) ≡ (x || (p && mine))
+turn-apart true p mine = refl
+turn-apart false true mine = refl
+turn-apart false false mine = refl
+
+pub gets-apart : (c : Tally) (alone p mine : Bool) → alone ≡ gets c false → p ≡ pair c → (alone || (p && mine)) ≡ gets c mine
+unfolding gets
+gets-apart c alone p mine e f = rw (e, f)
+    (turn-apart ((leb 2 (c north + c south) && not (corner north east c)) || (corner north west c && eqb (c north) 1)) (pair c) mine)
 
 pub turn-none : (first : Bool) (z : ℕ → Bool) → first ≡ alternate first z 0
 unfolding alternate

@@ -90,22 +90,49 @@ fn next_turn(takes: bool, mine: bool) -> bool
     if takes { !mine } else { mine }
 }
 
-// Entry m says whether net m gets a track; a to d are the counts of north, south, west and east.
+// Entry m says whether net m is a pair; a to d are the counts of north, south, west and east. Here and in who_alone no net
+// waits for another, so that the compiler treats many at a time.
+fn who_pairs(a: &[u8; 181], b: &[u8; 181], c: &[u8; 181], d: &[u8; 181]) -> [bool; 181]
+    ensures { λ r. ⌜ ((m : ℕ) → m < 181 → getD r m false ≡ pair (tallies (now (a .entry)) (now (b .entry)) (now (c .entry)) (now (d .entry)) m)) ⌝ }
+{
+    let mut out: [bool; 181] = [false; 181];
+    let mut k: usize = 0;
+    while k < 181 {
+        out[k] = is_pair(a[k], b[k], c[k], d[k]);
+        k += 1;
+    }
+    out
+}
+
+// Entry m says whether net m gets a track even where it has no turn.
+fn who_alone(a: &[u8; 181], b: &[u8; 181], c: &[u8; 181], d: &[u8; 181]) -> [bool; 181]
+    requires { ⌜ ((m : ℕ) → m < 181 → getD (now a) m 0 + getD (now b) m 0 ≤ 255) ⌝ }
+    ensures { λ r. ⌜ ((m : ℕ) → m < 181 → getD r m false ≡ gets (tallies (now (a .entry)) (now (b .entry)) (now (c .entry)) (now (d .entry)) m) false) ⌝ }
+{
+    let mut out: [bool; 181] = [false; 181];
+    let mut k: usize = 0;
+    while k < 181 {
+        out[k] = gets_track(a[k], b[k], c[k], d[k], false);
+        k += 1;
+    }
+    out
+}
+
+// Entry m says whether net m gets a track.
 fn who_needs(a: &[u8; 181], b: &[u8; 181], c: &[u8; 181], d: &[u8; 181], first: bool) -> [bool; 181]
     requires { ⌜ ((m : ℕ) → m < 181 → getD (now a) m 0 + getD (now b) m 0 ≤ 255) ⌝ }
     ensures { λ r. ⌜ ((m : ℕ) → m < 181 → getD r m false ≡ wanted first (tallies (now (a .entry)) (now (b .entry)) (now (c .entry)) (now (d .entry))) m) ⌝ }
 {
+    let alone = who_alone(a, b, c, d);
+    let pairs = who_pairs(a, b, c, d);
     let mut out: [bool; 181] = [false; 181];
     let mut mine = first;
     let mut k: usize = 0;
     while k < 180 {
         k += 1;
-        let n = a[k];
-        let s = b[k];
-        let w = c[k];
-        let e = d[k];
-        out[k] = gets_track(n, s, w, e, mine);
-        mine = next_turn(is_pair(n, s, w, e), mine);
+        let p = pairs[k];
+        out[k] = either(alone[k], both(p, mine));
+        mine = next_turn(p, mine);
     }
     out
 }

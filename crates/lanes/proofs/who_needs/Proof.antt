@@ -1,21 +1,28 @@
 -- The entries of the nets passed are right, and `mine` is the turn of the next pair.
-use Prim.Native.Nat.{_≤_, _-_, _+_}
-use mathlib.Core.Path.{_≡_, refl, _∙_}
+use Prim.Native.Nat.{ℕ, _≤_, _-_, _+_}
+use mathlib.Core.Path.{_≡_, refl, ap, _∙_}
+use mathlib.Core.Bool.{Bool, false, _||_}
 use native.Mathlib.Omega.{arith}
 use borrow.Author.Needs.{needs}
-use lib.ListN.{length, length-set}
+use lib.ListN.{length, length-set, getD}
 use Rattle.lanes.specs.Tables.{tallies}
-use Rattle.lanes.proofs.Wanting.{Found, found-none, found-more, turn-none, turn-more}
+use Rattle.lanes.proofs.Wanting.{Found, found-none, found-more, turn-none, turn-more, gets-apart}
+use Rattle.switchbox_law.specs.Rules.{pair, alternate}
 use Rattle.lanes.proofs.who_needs.Statement.{statement}
 use Rattle.lanes.proofs.who_needs.Tie as tie
-use Rattle.switchbox_law.specs.Rules.{pair, alternate}
 
 abbrev Inv-loop : tie.InvT-loop
-Inv-loop a b c d first out₀ mine₀ k₀ out mine k =
+Inv-loop a b c d first alone pairs out₀ mine₀ k₀ out mine k =
     (k ≤ 180) × (length out ≡ 181) × (mine ≡ alternate first (λ m. pair (tallies a b c d m)) k) × Found first (tallies a b c d) out k
 
 abbrev μ-loop : tie.MeasureT-loop
-μ-loop a b c d first out₀ mine₀ k₀ out mine k = 180 - k
+μ-loop a b c d first alone pairs out₀ mine₀ k₀ out mine k = 180 - k
+
+who-alone-requires : tie.Need-who-alone-requires Inv-loop μ-loop
+who-alone-requires c κs = c .pre
+
+who-pairs-requires : tie.Need-who-pairs-requires Inv-loop μ-loop
+who-pairs-requires c κs = search needs
 
 loop-holds : tie.Need-loop-holds Inv-loop μ-loop
 loop-holds c = (omega arith, refl, turn-none _ _, found-none _ _)
@@ -23,28 +30,20 @@ loop-holds c = (omega arith, refl, turn-none _ _, found-none _ _)
 add-k : tie.Need-add-k Inv-loop μ-loop
 add-k c = search needs
 
-element-copy-out-n : tie.Need-element-copy-out-n Inv-loop μ-loop
-element-copy-out-n c = search needs
+array-read-p : tie.Need-array-read-p Inv-loop μ-loop
+array-read-p c = search needs
 
-element-copy-out-s : tie.Need-element-copy-out-s Inv-loop μ-loop
-element-copy-out-s c = search needs
+array-read-either : tie.Need-array-read-either Inv-loop μ-loop
+array-read-either c = search needs
 
-element-copy-out-w : tie.Need-element-copy-out-w Inv-loop μ-loop
-element-copy-out-w c = search needs
+both-requires : tie.Need-both-requires Inv-loop μ-loop
+both-requires c κs = search needs
 
-element-copy-out-e : tie.Need-element-copy-out-e Inv-loop μ-loop
-element-copy-out-e c = search needs
-
-gets-track-requires : tie.Need-gets-track-requires Inv-loop μ-loop
-gets-track-requires c κs =
-    let k = c .before .before .before .before .before .loop .k in
-    c .before .before .before .before .before .before .pre (k + 1) (omega arith)
+either-requires : tie.Need-either-requires Inv-loop μ-loop
+either-requires c κs = search needs
 
 array-write-out : tie.Need-array-write-out Inv-loop μ-loop
 array-write-out c = search needs
-
-is-pair-requires : tie.Need-is-pair-requires Inv-loop μ-loop
-is-pair-requires c κs = search needs
 
 next-turn-requires : tie.Need-next-turn-requires Inv-loop μ-loop
 next-turn-requires c κs = search needs
@@ -54,18 +53,20 @@ loop-less c = search needs
 
 loop-again : tie.Need-loop-again Inv-loop μ-loop
 loop-again c =
-    let l = c .before .before .before .before .before .before .before .before .loop in (
+    let c4 = c .before .before .before .before in
+    let l = c4 .loop in
+    let p = c4 .before .who-pairs .ensures (l .k + 1) (omega arith) in
+    let alone = c4 .before .before .who-alone .ensures (l .k + 1) (omega arith) in (
       omega arith,
       simp length-set (l .inv .1),
-      c .next-turn .ensures ∙ turn-more _ _ (l .k) _ (l .mine) (c .before .is-pair .ensures) (l .inv .2),
-      found-more _ _ (l .out) (l .k) (l .mine) (c .before .before .gets-track .result) (l .inv .1) (omega arith) (l .inv .2)
-          (c .before .before .gets-track .ensures) (l .inv .3),
+      c .next-turn .ensures ∙ turn-more _ _ (l .k) _ (l .mine) p (l .inv .2),
+      found-more _ _ (l .out) (l .k) (l .mine) (c .before .either .result) (l .inv .1) (omega arith) (l .inv .2)
+          (c .before .either .ensures ∙ ap (λ (u : Bool). getD (c4 .before .before .who-alone .result) (l .k + 1) false || u) (c .before .before .both .ensures)
+          ∙ gets-apart _ _ _ (l .mine) alone p) (l .inv .3),
     )
 
 returns : tie.Need-returns Inv-loop μ-loop
-returns c = λ m b.
-    let l = c .before .loop in
-    l .inv .3 m (omega arith)
+returns c = λ m b. c .before .loop .inv .3 m (omega arith)
 
 pub who-needs-spec : {M : Type 1} → statement M
 who-needs-spec =
@@ -73,15 +74,15 @@ who-needs-spec =
     (tie.spec
     Inv-loop
     μ-loop
+    who-alone-requires
+    who-pairs-requires
     loop-holds
     add-k
-    element-copy-out-n
-    element-copy-out-s
-    element-copy-out-w
-    element-copy-out-e
-    gets-track-requires
+    array-read-p
+    array-read-either
+    both-requires
+    either-requires
     array-write-out
-    is-pair-requires
     next-turn-requires
     loop-less
     loop-again
