@@ -2,7 +2,7 @@
 use Prim.Native.Nat.{ℕ, zero, suc, _+_, _≤_, _<_, min, max}
 use mathlib.Core.Path.{_≡_, refl, sym, ap, ap₂, _∙_, subst}
 use mathlib.Core.Logic.{_≢_, _⊎_, inl, inr, ⊎-elim, by-cases}
-use mathlib.Core.Bool.{_&&_}
+use mathlib.Core.Bool.{false, _&&_}
 use mathlib.Core.List.{List}
 use native.Mathlib.Decide.{ℕ-discrete, decLe}
 use native.Mathlib.Numerals.{add-one}
@@ -194,6 +194,20 @@ module _ (N S W E : List ℕ) (n w m : ℕ) where
       (λ f. passes-span g p c m first last (span f))
       (some-side earliest 255)
 
+-- a net whose first column is past c does not pass it: so the side past all columns need not be told to the first columns
+before-first : (k l c : ℕ) → c < k → (leb k c && leb c l && ltb k l) ≡ false
+before-first k l c h = rw (lt-leb k c h)
+
+late : (net : ℕ → ℕ) (n w m f l c : ℕ) → c ≤ n
+    → (leb f c && leb c l && ltb f l) ≡ (leb (extreme min net (λ a. n + 1) m f w) c && leb c l && ltb (extreme min net (λ a. n + 1) m f w) l)
+unfolding Found
+late net n w m f l c h =
+    let le = from-start earliest net (λ a. n + 1) m f w in
+    ⊎-elim
+    (λ e. ap (λ (k : ℕ). leb k c && leb c l && ltb k l) (sym e))
+    (λ (a, i, q, past). before-first f l c (omega arith) ∙ sym (before-first _ l c (omega arith)))
+    (found earliest net (λ a. n + 1) m f w)
+
 -- ---- the tables, place by place
 
 pub reached-none : {pick : ℕ → ℕ → ℕ} {old : List ℕ} {net col : ℕ → ℕ} → length old ≡ 256 → Reached pick old net col 0 old
@@ -218,13 +232,13 @@ reached-more {pick} {old} {net} {col} {k} {new} x c v e d made lt r =
 
 module _ {N S W E : List ℕ} {n w : ℕ} where
   -- four sides, one after the other
-  pub tabled : {s₀ s₁ s₂ s₃ s₄ : Spans} → ((m : ℕ) → m < 256 → at (s₀ .first) m ≡ 255) → ((m : ℕ) → m < 256 → at (s₀ .last) m ≡ 0)
-      → Widened s₀ (entry N) (λ a. a) n s₁ → Widened s₁ (entry S) (λ a. a) n s₂ → Widened s₂ (entry W) (λ a. 0) w s₃ → Widened s₃ (entry E) (λ a. n + 1) w s₄
-      → Tabled N S W E n w s₄
+  pub tabled : {s₀ s₁ s₂ s₃ : Spans} {last : List ℕ} → ((m : ℕ) → m < 256 → at (s₀ .first) m ≡ 255) → ((m : ℕ) → m < 256 → at (s₀ .last) m ≡ 0)
+      → Widened s₀ (entry N) (λ a. a) n s₁ → Widened s₁ (entry S) (λ a. a) n s₂ → Widened s₂ (entry W) (λ a. 0) w s₃ → Reached max (s₃ .last) (entry E) (λ a. n + 1) w last
+      → Tabled N S W E n w (record { first = s₃ .first; last = last })
   tabled none nil r₁ r₂ r₃ r₄ =
       record {
-        first = λ m h. chain min m (r₄ .first .each m h) (r₃ .first .each m h) (r₂ .first .each m h) (r₁ .first .each m h) (none m h);
-        last = λ m h. chain max m (r₄ .last .each m h) (r₃ .last .each m h) (r₂ .last .each m h) (r₁ .last .each m h) (nil m h);
+        first = λ m h. chain min m refl (r₃ .first .each m h) (r₂ .first .each m h) (r₁ .first .each m h) (none m h);
+        last = λ m h. chain max m (r₄ .each m h) (r₃ .last .each m h) (r₂ .last .each m h) (r₁ .last .each m h) (nil m h);
       }
     where
       chain : (pick : ℕ → ℕ → ℕ) {start x₀ x₁ x₂ x₃ x₄ : ℕ} (m : ℕ) → x₄ ≡ extreme pick (entry E) (λ a. n + 1) m x₃ w → x₃ ≡ extreme pick (entry W) (λ a. 0) m x₂ w
@@ -237,4 +251,5 @@ module _ {N S W E : List ℕ} {n w : ℕ} where
   unfolding across
   across-by {s} fits t =
       most-same _ _ n (λ c i. count-same _ _ topNet (λ m j.
-      ap₂ (λ (f l : ℕ). leb f c && leb c l && ltb f l) (t .first m (omega arith)) (t .last m (omega arith)) ∙ sym (passes-by N S W E n w m c fits (i .1))))
+      late (entry E) n w m (at (s .first) m) (at (s .last) m) c (i .1)
+      ∙ ap₂ (λ (f l : ℕ). leb f c && leb c l && ltb f l) (t .first m (omega arith)) (t .last m (omega arith)) ∙ sym (passes-by N S W E n w m c fits (i .1))))

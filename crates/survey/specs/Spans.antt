@@ -64,9 +64,9 @@ pub record Widened (s : Spans) (net col : ℕ → ℕ) (k : ℕ) (r : Spans) : T
   pub first : Reached min (s .first) net col k (r .first)
   pub last : Reached max (s .last) net col k (r .last)
 
--- the table of all nets
+-- the table of all nets; the first columns leave the east side out, which lies past all others
 pub record Tabled (north south west east : List ℕ) (n w : ℕ) (s : Spans) : Type 0 where
-  pub first : (m : ℕ) → m < 256 → at (s .first) m ≡ firstOf north south west east n w m
+  pub first : (m : ℕ) → m < 256 → extreme min (entry east) (λ a. n + 1) m (at (s .first) m) w ≡ firstOf north south west east n w m
   pub last : (m : ℕ) → m < 256 → at (s .last) m ≡ lastOf north south west east n w m
 
 -- how many nets have their key at each column

@@ -14,7 +14,7 @@ ghost use Rattle.grid.specs.Legal.{topNet, entry, pinsOf, nets};
 ghost use Rattle.grid.specs.View.{longestSide};
 ghost use Rattle.density.specs.Density.{across, tracksFor, floor};
 ghost use Rattle.ticket.specs.Good.{Good};
-ghost use Rattle.survey.specs.Spans.{columnAt, passed, at, Widened, Tabled, Turns};
+ghost use Rattle.survey.specs.Spans.{columnAt, passed, at, Reached, Widened, Tabled, Turns};
 ghost use Rattle.survey.specs.Survey.{layersFor, trunkFigures, boxFigures, figuresOf, answered, refused, surveyOf};
 ghost use Rattle.survey.specs.Line.{decimal, boxLine, trunkLine, refusedLine, lineFor, longestLine, Lined, Says, Adds};
 
@@ -22,6 +22,12 @@ ghost use Rattle.survey.specs.Line.{decimal, boxLine, trunkLine, refused
 struct Spans {
     pub first: [u8; 256],
     pub last: [u8; 256],
+}
+
+// How many nets begin and end at each column.
+struct Turned {
+    pub begins: [u8; 256],
+    pub ends: [u8; 256],
 }
 
 pub struct SurveyFigures {
@@ -99,6 +105,22 @@ fn widen(s: Spans, list: [u8; 90], places: usize, along: bool, fixed: usize) -> 
     Spans { first, last }
 }
 
+// Adds a side past all columns to the last columns alone: a net that has no other pins passes nothing either way.
+fn reach(last: [u8; 256], list: [u8; 90], places: usize, column: usize) -> [u8; 256]
+    requires { ⌜ (places ≤ longestSide) × (column ≤ longestSide + 1) ⌝ }
+    ensures { λ r. ⌜ Reached max last (entry list) (λ a. column) places r ⌝ }
+{
+    let mut new = last;
+    let c = column as u8;
+    let mut i: usize = 0;
+    while i < places {
+        let m = list[i] as usize;
+        new[m] = later(new[m], c);
+        i += 1;
+    }
+    new
+}
+
 // The spans of all nets.
 fn spans_of(
     north: [u8; 90],
@@ -118,25 +140,31 @@ fn spans_of(
     let s = widen(s, north, n, true, 0);
     let s = widen(s, south, n, true, 0);
     let s = widen(s, west, w, false, 0);
-    widen(s, east, w, false, n + 1)
+    let first = s.first;
+    let old = s.last;
+    let last = reach(old, east, w, n + 1);
+    Spans { first, last }
 }
 
-// How many nets, of those with more than one column, have their key at each column.
-fn turns(key: [u8; 256], s: Spans) -> [u8; 256]
-    ensures { λ r. ⌜ Turns key s topNet r ⌝ }
+// How many nets, of those with more than one column, begin and end at each column.
+fn turns(s: Spans) -> Turned
+    ensures { λ r. ⌜ (Turns (s .first) s topNet (r .begins)) × (Turns (s .last) s topNet (r .ends)) ⌝ }
 {
     let first = s.first;
     let last = s.last;
-    let mut counts = [0u8; 256];
+    let mut begins = [0u8; 256];
+    let mut ends = [0u8; 256];
     let mut m: usize = 0;
     while m < ticket::TOP_NET {
         m += 1;
         if first[m] < last[m] {
-            let v = key[m] as usize;
-            counts[v] = counts[v] + 1;
+            let f = first[m] as usize;
+            let l = last[m] as usize;
+            begins[f] = begins[f] + 1;
+            ends[l] = ends[l] + 1;
         }
     }
-    counts
+    Turned { begins, ends }
 }
 
 // The largest number of nets that a column passes: from column to column, those that begin come in and those that end go.
@@ -144,10 +172,9 @@ fn most_passed(s: Spans, n: usize) -> usize
     requires { ⌜ n ≤ longestSide ⌝ }
     ensures { λ r. ⌜ r ≡ most (λ c. nets (passed (at (s .first)) (at (s .last)) c)) n ⌝ }
 {
-    let first = s.first;
-    let last = s.last;
-    let begins = turns(first, s);
-    let ends = turns(last, s);
+    let t = turns(s);
+    let begins = t.begins;
+    let ends = t.ends;
     let mut now = wide(begins[0]);
     let mut best: usize = 0;
     let mut c: usize = 0;

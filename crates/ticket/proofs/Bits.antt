@@ -13,7 +13,7 @@ use lib.Pow.{pow-mono, pow-pos, shr-shr}
 use lib.Count.{ones, ones-step, leadingZeros, leading-length}
 use borrow.Author.Tests.{le-leb, lt-leb, lt-ltb, le-ltb, eq-eqb, ne-eqb, leb-true}
 use Rattle.counting.specs.Counting.{bit, sum, count}
-use Rattle.counting.proofs.Sums.{bit-one, bit-zero, sum-more}
+use Rattle.counting.proofs.Sums.{split, bit-le, bit-one, bit-zero, sum-more}
 use Rattle.counting.proofs.Counts.{count-le}
 use Rattle.ticket.proofs.Flags.{le-or-lt}
 use Rattle.ticket.specs.Format.{byte, isOn, stands, standing, mapBytes, goodMap, mapCount, pinNet}
@@ -158,6 +158,21 @@ standing-none s from i e = sum-more (λ a. bit (stands s from a)) i ∙ ap (λ (
 
 pub standing-le : (s : List ℕ) (from i : ℕ) → standing s from i ≤ i
 standing-le s from i = count-le (stands s from) i
+
+-- all of the first p places stand
+module _ (s : List ℕ) (from p : ℕ) (all : standing s from p ≡ p) where
+  standing-back : (d i : ℕ) → i + d ≡ p → standing s from i ≡ i
+  standing-back zero i e = let q : i ≡ p = omega arith in rw q all
+  standing-back (suc d) i e =
+      omega (arith, standing-back d (i + 1) (omega arith), sum-more (λ a. bit (stands s from a)) i, bit-le (stands s from (i + 1)), standing-le s from i)
+
+  pub full-standing : (i : ℕ) → i ≤ p → standing s from i ≡ i
+  full-standing i h = standing-back (p - i) i (omega arith)
+
+  pub full-stands : (i : ℕ) → i < p → stands s from (i + 1) ≡ true
+  full-stands i h =
+      split (stands s from (i + 1)) (λ e. e)
+      (λ e. absurd (omega (arith, standing-none s from i e, full-standing i (omega arith), full-standing (i + 1) (omega arith))))
 
 pub pin-stands : (s : List ℕ) (from p i : ℕ) → i < p → stands s from (i + 1) ≡ true → pinNet s true from p (i + 1) ≡ byte s (from + mapBytes p + standing s from i)
 unfolding pinNet

@@ -32,7 +32,7 @@ unless-good false k p c n e = absurd (n e)
 
 -- ---- the header
 
-both : (a b : Bool) → (a && b) ≡ true → (a ≡ true) × (b ≡ true)
+pub both : (a b : Bool) → (a && b) ≡ true → (a ≡ true) × (b ≡ true)
 both true b e = (refl, e)
 both false b e = let z : _≡_ {A = ℕ} 0 1 = cc in absurd (omega arith)
 
@@ -97,6 +97,23 @@ module _ (s : List ℕ) (i : ℕ) where
   nets-more (suc k) h l e =
       let q : suc k - 1 ≡ k = omega arith in
       simp (lt-ltb i (length s) l, e, q)
+
+-- `count` net bytes from byte `from` on, of which none, or i, are passed
+pub nets-start : (s : List ℕ) (from count : ℕ) → netsOf s from count ≡ netsOf s (from + 0) (count - 0)
+nets-start s from count =
+    let a : from ≡ from + 0 = omega arith in
+    let b : count ≡ count - 0 = omega arith in
+    ap (λ (x : ℕ). netsOf s x count) a ∙ ap (netsOf s (from + 0)) b
+
+module _ (s : List ℕ) (from count i : ℕ) where
+  pub nets-pass : i < count → from + count ≤ length s → within (byte s (from + i)) topNet ≡ true → netsOf s (from + i) (count - i) ≡ netsOf s (from + (i + 1)) (count - (i + 1))
+  nets-pass h l e =
+      let a : from + i + 1 ≡ from + (i + 1) = omega arith in
+      let b : count - i - 1 ≡ count - (i + 1) = omega arith in
+      nets-more s (from + i) (count - i) (omega arith) (omega arith) e ∙ ap (λ (x : ℕ). netsOf s x (count - i - 1)) a ∙ ap (netsOf s (from + (i + 1))) b
+
+  pub nets-passed : i ≡ count → netsOf s (from + i) (count - i) ≡ goOn (from + count)
+  nets-passed e = nets-end s (from + i) (count - i) (omega arith) ∙ ap goOn (ap (λ (x : ℕ). from + x) e)
 
 -- ---- the smallest number that passes a test
 

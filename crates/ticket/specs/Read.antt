@@ -20,9 +20,12 @@
 --   ticketOf s            the whole reading, with the pins
 --   readOf s              Read's answer
 --   ticketPins s          the pins of the ticket
---   Header s, Starts s e  not part of the definition, but what the functions ask: the header's ranges; no side starts past the end
+--   Header s, Starts s e, Full s on from p
+--                         not part of the definition, but what the functions ask: the header's ranges; no side starts past the end; a side that stands
+--                         has a pin at each of its p places, and its bytes are all there
 use Prim.Native.Nat.{ℕ, zero, suc, _+_, _≤_}
-use mathlib.Core.Bool.{Bool, cond, _&&_}
+use mathlib.Core.Path.{_≡_}
+use mathlib.Core.Bool.{Bool, true, cond, _&&_}
 use mathlib.Core.List.{List}
 use lib.ListN.{length, replicate}
 use lib.Dec.{ltb, leb, eqb}
@@ -146,3 +149,8 @@ pub record Starts (s : List ℕ) (e : Ends) : Type 0 where
   pub south : e .north .at ≤ length s
   pub west : e .south .at ≤ length s
   pub east : e .west .at ≤ length s
+
+pub record Full (s : List ℕ) (on : Bool) (from p : ℕ) : Type 0 where
+  pub on-it : on ≡ true
+  pub all : standing s from p ≡ p
+  pub size : from + mapBytes p + p ≤ length s

@@ -6,12 +6,13 @@ ghost use mathlib.Core.Path.{_≡_};
 ghost use Prim.Native.Nat.{ℕ, _+_, _*_, _/_, _^_, _≤_, _<_};
 ghost use lib.ListN.{length, getD};
 ghost use lib.Dec.{leb, eqb};
+ghost use mathlib.Core.Bool.{true, false, cond, _&&_};
 ghost use Rattle.grid.specs.Grid.{Side, north, south, west, east};
 ghost use Rattle.grid.specs.Legal.{entry, topNet};
 ghost use Rattle.grid.specs.View.{within};
 ghost use Rattle.counting.specs.Counting.{count};
 ghost use Rattle.ticket.specs.Format.{byte, largestByte2, largestSideMap, isOn, standing, mapBytes, goodMap, mapCount, sideNets, netCount, pinCount, pinsIn, least};
-ghost use Rattle.ticket.specs.Read.{refusal, goOn, unless, fieldsOf, headerOf, netsOf, sideOf, after, endsOf, pinsAt, leftOver, noLone, Header, Starts, refusedTicket, acceptedTicket, judged, ticketOf, readOf};
+ghost use Rattle.ticket.specs.Read.{refusal, goOn, unless, fieldsOf, headerOf, netsOf, sideOf, after, endsOf, pinsAt, leftOver, noLone, Header, Starts, Full, refusedTicket, acceptedTicket, judged, ticketOf, readOf};
 
 pub const MOST_TRUNK_LAYERS: usize = 8;
 
@@ -176,6 +177,27 @@ fn map_count(ticket: &[u8], at: usize, places: usize) -> usize
     ones_in(ticket, at, bytes)
 }
 
+fn both(a: bool, b: bool) -> bool
+    ensures { λ r. ⌜ r ≡ (a && b) ⌝ }
+{
+    if a { b } else { false }
+}
+
+// Whether `count` bytes from byte `from` on are all nets. It has no way out before the end, so that many bytes are tested at once.
+fn all_nets(ticket: &[u8], from: usize, count: usize) -> bool
+    requires { ⌜ (count ≤ 96) × (from + count ≤ length (now ticket)) ⌝ }
+    ensures { λ r. ⌜ (r ≡ true → netsOf (now (ticket .entry)) from count ≡ goOn (from + count)) ⌝ }
+{
+    let mut good = true;
+    let mut i: usize = 0;
+    while i < count {
+        good = both(good, is_within(wide(ticket[from + i]), TOP_NET));
+        i += 1;
+    }
+    good
+}
+
+// Net by net, so that the first bad one is found.
 fn nets(ticket: &[u8], from: usize, count: usize) -> Cursor
     requires { ⌜ (count ≤ 96) × (from ≤ length (now ticket)) ⌝ }
     ensures meets { λ r. ⌜ r ≡ netsOf (now (ticket .entry)) from count ⌝ }
@@ -196,6 +218,20 @@ fn nets(ticket: &[u8], from: usize, count: usize) -> Cursor
     go_on(at)
 }
 
+fn net_bytes(ticket: &[u8], from: usize, count: usize) -> Cursor
+    requires { ⌜ (count ≤ 96) × (from ≤ length (now ticket)) ⌝ }
+    ensures meets { λ r. ⌜ r ≡ netsOf (now (ticket .entry)) from count ⌝ }
+    ensures inside { λ r. ⌜ r .at ≤ length (now (ticket .entry)) ⌝ }
+{
+    if ticket.len() - from < count {
+        return nets(ticket, from, count);
+    }
+    if all_nets(ticket, from, count) {
+        return go_on(from + count);
+    }
+    nets(ticket, from, count)
+}
+
 // A side whose map starts at byte `at`.
 fn side(ticket: &[u8], at: usize, places: usize) -> Cursor
     requires { ⌜ (1 ≤ places) × (places ≤ 90) × (at ≤ length (now ticket)) ⌝ }
@@ -210,7 +246,7 @@ fn side(ticket: &[u8], at: usize, places: usize) -> Cursor
     if count == 0 {
         return refuse(6, at);
     }
-    nets(ticket, at + bytes, count)
+    net_bytes(ticket, at + bytes, count)
 }
 
 // The next side, read where it stands and nothing is refused before it.
@@ -250,7 +286,7 @@ fn sides(ticket: &[u8]) -> Ends
     }
 }
 
-// The nets of a side whose map starts at byte `at`.
+// The nets of a side whose map starts at byte `at`, place by place.
 fn side_nets(ticket: &[u8], stands: bool, at: usize, places: usize) -> [u8; 90]
     requires { ⌜ (places ≤ 90) × (at ≤ length (now ticket)) ⌝ }
     ensures { λ r. ⌜ r ≡ sideNets (now (ticket .entry)) stands at places ⌝ }
@@ -271,6 +307,43 @@ fn side_nets(ticket: &[u8], stands: bool, at: usize, places: usize) -> [u8; 90]
     list
 }
 
+// Whether a side has a pin at each place, and its bytes are all there.
+fn is_full(ticket: &[u8], stands: bool, at: usize, places: usize) -> bool
+    requires { ⌜ (1 ≤ places) × (places ≤ 90) × (at ≤ length (now ticket)) ⌝ }
+    ensures { λ r. ⌜ (r ≡ true → Full (now (ticket .entry)) stands at places) ⌝ }
+{
+    if ticket.len() - at < (places + 7) / 8 + places {
+        return false;
+    }
+    let count = map_count(ticket, at, places);
+    both(stands, count == places)
+}
+
+// The nets of such a side: they lie in the ticket as they are listed.
+fn full_side(ticket: &[u8], at: usize, places: usize) -> [u8; 90]
+    requires { ⌜ (places ≤ 90) × Full (now ticket) true at places ⌝ }
+    ensures { λ r. ⌜ r ≡ sideNets (now (ticket .entry)) true at places ⌝ }
+{
+    let mut list = [0u8; 90];
+    let from = at + (places + 7) / 8;
+    let mut i: usize = 0;
+    while i < places {
+        list[i] = ticket[from + i];
+        i += 1;
+    }
+    list
+}
+
+fn side_list(ticket: &[u8], stands: bool, at: usize, places: usize) -> [u8; 90]
+    requires { ⌜ (1 ≤ places) × (places ≤ 90) × (at ≤ length (now ticket)) ⌝ }
+    ensures { λ r. ⌜ r ≡ sideNets (now (ticket .entry)) stands at places ⌝ }
+{
+    if is_full(ticket, stands, at, places) {
+        return full_side(ticket, at, places);
+    }
+    side_nets(ticket, stands, at, places)
+}
+
 // The nets of all sides, once their ends are known.
 fn pins_at(ticket: &[u8], ends: Ends) -> Pins
     requires { ⌜ Header (now ticket) ⌝ }
@@ -280,10 +353,10 @@ fn pins_at(ticket: &[u8], ends: Ends) -> Pins
     let n = ticket[1] as usize;
     let w = ticket[2] as usize;
     let map = ticket[3];
-    let north = side_nets(ticket, bit_of(map, 0), 4, n);
-    let south = side_nets(ticket, bit_of(map, 1), ends.north.at, n);
-    let west = side_nets(ticket, bit_of(map, 2), ends.south.at, w);
-    let east = side_nets(ticket, bit_of(map, 3), ends.west.at, w);
+    let north = side_list(ticket, bit_of(map, 0), 4, n);
+    let south = side_list(ticket, bit_of(map, 1), ends.north.at, n);
+    let west = side_list(ticket, bit_of(map, 2), ends.south.at, w);
+    let east = side_list(ticket, bit_of(map, 3), ends.west.at, w);
     Pins {
         north,
         south,
@@ -321,7 +394,26 @@ fn tally_all(p: Pins) -> [u16; 256]
     tally(c, east)
 }
 
-// The smallest net with one pin, 0 where there is none.
+fn either(a: bool, b: bool) -> bool
+    ensures { λ r. ⌜ r ≡ cond a true b ⌝ }
+{
+    if a { true } else { b }
+}
+
+// Whether a net has one pin. It has no way out before the end, so that many nets are tested at once.
+fn has_lone(counts: [u16; 256]) -> bool
+    ensures { λ r. ⌜ (r ≡ false → least (λ v. eqb (getD counts v 0) 1) topNet ≡ 0) ⌝ }
+{
+    let mut some = false;
+    let mut v: usize = 0;
+    while v < TOP_NET {
+        v += 1;
+        some = either(some, counts[v] == 1);
+    }
+    some
+}
+
+// The smallest net with one pin, 0 where there is none, net by net.
 fn lone(counts: [u16; 256]) -> usize
     ensures { λ r. ⌜ r ≡ least (λ v. eqb (getD counts v 0) 1) topNet ⌝ }
 {
@@ -333,6 +425,12 @@ fn lone(counts: [u16; 256]) -> usize
         }
     }
     0
+}
+
+fn lone_net(counts: [u16; 256]) -> usize
+    ensures { λ r. ⌜ r ≡ least (λ v. eqb (getD counts v 0) 1) topNet ⌝ }
+{
+    if has_lone(counts) { lone(counts) } else { 0 }
 }
 
 // How many nets have pins.
@@ -407,7 +505,7 @@ fn judged(ticket: &[u8], pins: Pins) -> Ticket
     ensures { λ r. ⌜ r ≡ judged (now (ticket .entry)) pins ⌝ }
 {
     let counts = tally_all(pins);
-    let last = no_lone(lone(counts));
+    let last = no_lone(lone_net(counts));
     if last.number != 0 {
         return refused(last);
     }

@@ -19,9 +19,6 @@ abbrev μ-loop : tie.MeasureT-loop
 turns-requires : tie.Need-turns-requires Inv-loop μ-loop
 turns-requires c κs = search needs
 
-turns-requires-2 : tie.Need-turns-requires-2 Inv-loop μ-loop
-turns-requires-2 c κs = search needs
-
 array-read-wide : tie.Need-array-read-wide Inv-loop μ-loop
 array-read-wide c = search needs
 
@@ -41,7 +38,7 @@ wide-requires-2 : tie.Need-wide-requires-2 Inv-loop μ-loop
 wide-requires-2 c κs = search needs
 
 add-now : tie.Need-add-now Inv-loop μ-loop
-add-now c = omega (arith, c .wide2 .ensures, swept-room (c .before .before .loop .inv .1) (omega arith) (c .before .before .before .before .before .before .before .before .args .s) (c .before .before .before .before .before .turns .ensures) (c .before .before .before .before .turns2 .ensures))
+add-now c = omega (arith, c .wide2 .ensures, swept-room (c .before .before .loop .inv .1) (omega arith) (c .before .before .before .before .before .before .before .args .s) (c .before .before .before .before .before .before .turns .ensures .0) (c .before .before .before .before .before .before .turns .ensures .1))
 
 larger-requires : tie.Need-larger-requires Inv-loop μ-loop
 larger-requires c κs = search needs
@@ -53,7 +50,7 @@ wide-requires-3 : tie.Need-wide-requires-3 Inv-loop μ-loop
 wide-requires-3 c κs = search needs
 
 sub-now : tie.Need-sub-now Inv-loop μ-loop
-sub-now c = omega (arith, c .before .before .wide2 .ensures, c .wide3 .ensures, swept-room (c .before .before .before .before .loop .inv .1) (omega arith) (c .before .before .before .before .before .before .before .before .before .before .args .s) (c .before .before .before .before .before .before .before .turns .ensures) (c .before .before .before .before .before .before .turns2 .ensures))
+sub-now c = omega (arith, c .before .before .wide2 .ensures, c .wide3 .ensures, swept-room (c .before .before .before .before .loop .inv .1) (omega arith) (c .before .before .before .before .before .before .before .before .before .args .s) (c .before .before .before .before .before .before .before .before .turns .ensures .0) (c .before .before .before .before .before .before .before .before .turns .ensures .1))
 
 loop-less : tie.Need-loop-less Inv-loop μ-loop
 loop-less c = search needs
@@ -66,9 +63,9 @@ loop-again c =
 returns : tie.Need-returns Inv-loop μ-loop
 returns c =
     let l = c .before .loop in
-    let s = c .before .before .before .before .before .before .before .args .s in
-    let e : l .c ≡ c .before .before .before .before .before .before .before .args .n = omega arith in
-    l .inv .1 .largest s (c .before .before .before .before .turns .ensures) (c .before .before .before .turns2 .ensures) ∙ ap (most (λ k. nets (passed (at (s .first)) (at (s .last)) k))) e
+    let s = c .before .before .before .before .before .before .args .s in
+    let e : l .c ≡ c .before .before .before .before .before .before .args .n = omega arith in
+    l .inv .1 .largest s (c .before .before .before .before .before .turns .ensures .0) (c .before .before .before .before .before .turns .ensures .1) ∙ ap (most (λ k. nets (passed (at (s .first)) (at (s .last)) k))) e
 
 pub most-passed-spec : {M : Type 1} → statement M
 most-passed-spec =
@@ -77,7 +74,6 @@ most-passed-spec =
     Inv-loop
     μ-loop
     turns-requires
-    turns-requires-2
     array-read-wide
     wide-requires
     loop-holds

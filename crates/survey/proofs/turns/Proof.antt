@@ -14,17 +14,20 @@ use Rattle.survey.proofs.turns.Statement.{statement}
 use Rattle.survey.proofs.turns.Tie as tie
 
 abbrev Inv-loop : tie.InvT-loop
-Inv-loop key first last counts₀ m₀ counts m = (m ≤ topNet) × Turns key (record { first = first; last = last }) m counts
+Inv-loop first last begins₀ ends₀ m₀ begins ends m = (m ≤ topNet) × Turns first (record { first = first; last = last }) m begins × Turns last (record { first = first; last = last }) m ends
 
 abbrev μ-loop : tie.MeasureT-loop
-μ-loop key first last counts₀ m₀ counts m = topNet - m
+μ-loop first last begins₀ ends₀ m₀ begins ends m = topNet - m
 
--- a byte of the list
-elem : (c : tie.Then1 Inv-loop μ-loop) → Fits w8 (getD (c .before .before .before .before .before .args .t1) (c .before .before .loop .m + 1) 0)
-elem c = search needs
+-- a byte of each table
+first-fits : (c : tie.Then1 Inv-loop μ-loop) → Fits w8 (getD (c .before .before .before .before .before .args .s .first) (c .before .before .loop .m + 1) 0)
+first-fits c = search needs
+
+last-fits : (c : tie.Then1 Inv-loop μ-loop) → Fits w8 (getD (c .before .before .before .before .before .args .s .last) (c .before .before .loop .m + 1) 0)
+last-fits c = search needs
 
 loop-holds : tie.Need-loop-holds Inv-loop μ-loop
-loop-holds c = (omega arith, turns-none (search needs) (λ v. zeros-at 256 v))
+loop-holds c = (omega arith, turns-none (search needs) (λ v. zeros-at 256 v), turns-none (search needs) (λ v. zeros-at 256 v))
 
 add-m : tie.Need-add-m Inv-loop μ-loop
 add-m c = search needs
@@ -35,38 +38,53 @@ array-read-if1 c = search needs
 array-read-if1-2 : tie.Need-array-read-if1-2 Inv-loop μ-loop
 array-read-if1-2 c = search needs
 
-array-read-v : tie.Need-array-read-v Inv-loop μ-loop
-array-read-v c = search needs
+array-read-f : tie.Need-array-read-f Inv-loop μ-loop
+array-read-f c = search needs
 
-cast-v : tie.Need-cast-v Inv-loop μ-loop
-cast-v c = search needs
+cast-f : tie.Need-cast-f Inv-loop μ-loop
+cast-f c = search needs
 
-array-read-counts : tie.Need-array-read-counts Inv-loop μ-loop
-array-read-counts c = omega (arith, elem c, c .before .before .loop .inv .1 .size)
+array-read-l : tie.Need-array-read-l Inv-loop μ-loop
+array-read-l c = search needs
 
-add-counts : tie.Need-add-counts Inv-loop μ-loop
-add-counts c = omega (arith, turns-le _ (elem c .fits) (c .before .before .loop .inv .1))
+cast-l : tie.Need-cast-l Inv-loop μ-loop
+cast-l c = search needs
 
-array-write-counts : tie.Need-array-write-counts Inv-loop μ-loop
-array-write-counts c = omega (arith, elem c, c .before .before .loop .inv .1 .size)
+array-read-begins : tie.Need-array-read-begins Inv-loop μ-loop
+array-read-begins c = omega (arith, first-fits c, c .before .before .loop .inv .1 .size)
+
+add-begins : tie.Need-add-begins Inv-loop μ-loop
+add-begins c = omega (arith, turns-le _ (first-fits c .fits) (c .before .before .loop .inv .1))
+
+array-write-begins : tie.Need-array-write-begins Inv-loop μ-loop
+array-write-begins c = omega (arith, first-fits c, c .before .before .loop .inv .1 .size)
+
+array-read-ends : tie.Need-array-read-ends Inv-loop μ-loop
+array-read-ends c = omega (arith, last-fits c, c .before .before .loop .inv .2 .size)
+
+add-ends : tie.Need-add-ends Inv-loop μ-loop
+add-ends c = omega (arith, turns-le _ (last-fits c .fits) (c .before .before .loop .inv .2))
+
+array-write-ends : tie.Need-array-write-ends Inv-loop μ-loop
+array-write-ends c = omega (arith, last-fits c, c .before .before .loop .inv .2 .size)
 
 loop-less : tie.Need-loop-less Inv-loop μ-loop
 loop-less c = search needs
 
 loop-again : tie.Need-loop-again Inv-loop μ-loop
-loop-again c = (omega arith, turns-more (c .before .before .loop .inv .1) _ refl (elem c .fits) (c .if1 .taken))
+loop-again c = let l = c .before .before .loop in (omega arith, turns-more (l .inv .1) _ refl (first-fits c .fits) (c .if1 .taken), turns-more (l .inv .2) _ refl (last-fits c .fits) (c .if1 .taken))
 
 loop-less-2 : tie.Need-loop-less-2 Inv-loop μ-loop
 loop-less-2 c = search needs
 
 loop-again-2 : tie.Need-loop-again-2 Inv-loop μ-loop
-loop-again-2 c = (omega arith, turns-skip (c .before .before .loop .inv .1) (c .if1 .left))
+loop-again-2 c = let l = c .before .before .loop in (omega arith, turns-skip (l .inv .1) (c .if1 .left), turns-skip (l .inv .2) (c .if1 .left))
 
 returns : tie.Need-returns Inv-loop μ-loop
 returns c =
     let l = c .before .loop in
     let e : l .m ≡ topNet = omega arith in
-    rw e at (l .inv .1)
+    (rw e at (l .inv .1), rw e at (l .inv .2))
 
 pub turns-spec : {M : Type 1} → statement M
 turns-spec =
@@ -78,11 +96,16 @@ turns-spec =
     add-m
     array-read-if1
     array-read-if1-2
-    array-read-v
-    cast-v
-    array-read-counts
-    add-counts
-    array-write-counts
+    array-read-f
+    cast-f
+    array-read-l
+    cast-l
+    array-read-begins
+    add-begins
+    array-write-begins
+    array-read-ends
+    add-ends
+    array-write-ends
     loop-less
     loop-again
     loop-less-2

@@ -27,26 +27,26 @@ shared-slice-read-map c = search needs
 bit-of-requires : tie.Need-bit-of-requires
 bit-of-requires c κs = search needs
 
-side-nets-requires : tie.Need-side-nets-requires
-side-nets-requires c κs = search needs
+side-list-requires : tie.Need-side-list-requires
+side-list-requires c κs = search needs
 
 bit-of-requires-2 : tie.Need-bit-of-requires-2
 bit-of-requires-2 c κs = search needs
 
-side-nets-requires-2 : tie.Need-side-nets-requires-2
-side-nets-requires-2 c κs = search needs
+side-list-requires-2 : tie.Need-side-list-requires-2
+side-list-requires-2 c κs = search needs
 
 bit-of-requires-3 : tie.Need-bit-of-requires-3
 bit-of-requires-3 c κs = search needs
 
-side-nets-requires-3 : tie.Need-side-nets-requires-3
-side-nets-requires-3 c κs = search needs
+side-list-requires-3 : tie.Need-side-list-requires-3
+side-list-requires-3 c κs = search needs
 
 bit-of-requires-4 : tie.Need-bit-of-requires-4
 bit-of-requires-4 c κs = search needs
 
-side-nets-requires-4 : tie.Need-side-nets-requires-4
-side-nets-requires-4 c κs = search needs
+side-list-requires-4 : tie.Need-side-list-requires-4
+side-list-requires-4 c κs = search needs
 
 returns : tie.Need-returns
 returns c =
@@ -54,10 +54,10 @@ returns c =
     let n : ℕ → Bool → List ℕ = λ from b. sideNets s b from (byte s 1) in
     let w : ℕ → Bool → List ℕ = λ from b. sideNets s b from (byte s 2) in
     let e = c .before .before .before .before .before .before .before .before .before .before .before .before .args .ends in
-    let north = c .before .before .before .before .before .before .side-nets .ensures ∙ ap (n 4) (c .before .before .before .before .before .before .before .bit-of .ensures) in
-    let south = c .before .before .before .before .side-nets2 .ensures ∙ ap (n (e .north .at)) (c .before .before .before .before .before .bit-of2 .ensures) in
-    let west = c .before .before .side-nets3 .ensures ∙ ap (w (e .south .at)) (c .before .before .before .bit-of3 .ensures) in
-    let east = c .side-nets4 .ensures ∙ ap (w (e .west .at)) (c .before .bit-of4 .ensures) in
+    let north = c .before .before .before .before .before .before .side-list .ensures ∙ ap (n 4) (c .before .before .before .before .before .before .before .bit-of .ensures) in
+    let south = c .before .before .before .before .side-list2 .ensures ∙ ap (n (e .north .at)) (c .before .before .before .before .before .bit-of2 .ensures) in
+    let west = c .before .before .side-list3 .ensures ∙ ap (w (e .south .at)) (c .before .before .before .bit-of3 .ensures) in
+    let east = c .side-list4 .ensures ∙ ap (w (e .west .at)) (c .before .bit-of4 .ensures) in
     λ i. record { north = north i; south = south i; west = west i; east = east i }
 
 pub pins-at-spec : {M : Type 1} → statement M
@@ -70,11 +70,11 @@ pins-at-spec =
     cast-w
     shared-slice-read-map
     bit-of-requires
-    side-nets-requires
+    side-list-requires
     bit-of-requires-2
-    side-nets-requires-2
+    side-list-requires-2
     bit-of-requires-3
-    side-nets-requires-3
+    side-list-requires-3
     bit-of-requires-4
-    side-nets-requires-4
+    side-list-requires-4
     returns)

@@ -44,11 +44,11 @@ returns-2 c =
     let bad = count-bad s (a .at) (a .places) (sym (c .before .before .map-count .ensures) ∙ c .before .if2 .taken) in
     (simp (fits, bad) (c .refuse2 .ensures), omega (arith, at-refused (c .refuse2 .ensures)))
 
-add-nets : tie.Need-add-nets
-add-nets c = search needs
+add-net-bytes : tie.Need-add-net-bytes
+add-net-bytes c = search needs
 
-nets-requires : tie.Need-nets-requires
-nets-requires c κs =
+net-bytes-requires : tie.Need-net-bytes-requires
+net-bytes-requires c κs =
     let a = c .before .before .before .before .args in
     let s = now (a .ticket) in
     let k = c .before .map-count .ensures in
@@ -63,7 +63,7 @@ returns-3 c =
     let fits = le-leb (a .at + mapBytes (a .places)) (length s) (omega arith) in
     let k = c .before .before .map-count .ensures in
     let good = count-good s (a .at) (a .places) (λ q. c .before .if2 .left (k ∙ q)) in
-    (simp (fits, good .0) (c .nets .ensures .0 ∙ ap (netsOf s (a .at + mapBytes (a .places))) (k ∙ good .1)), c .nets .ensures .1)
+    (simp (fits, good .0) (c .net-bytes .ensures .0 ∙ ap (netsOf s (a .at + mapBytes (a .places))) (k ∙ good .1)), c .net-bytes .ensures .1)
 
 pub side-spec : {M : Type 1} → statement M
 side-spec =
@@ -76,6 +76,6 @@ side-spec =
     map-count-requires
     refuse-requires-2
     returns-2
-    add-nets
-    nets-requires
+    add-net-bytes
+    net-bytes-requires
     returns-3)

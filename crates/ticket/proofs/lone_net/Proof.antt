@@ -1,0 +1,20 @@
+-- `ticket::lone_net` meets its contract: a test of all nets at once, and net by net where it finds one.
+use mathlib.Core.Path.{sym}
+use borrow.Author.Needs.{needs}
+use Rattle.ticket.proofs.lone_net.Statement.{statement}
+use Rattle.ticket.proofs.lone_net.Tie as tie
+
+has-lone-requires : tie.Need-has-lone-requires
+has-lone-requires c κs = search needs
+
+lone-requires : tie.Need-lone-requires
+lone-requires c κs = search needs
+
+returns : tie.Need-returns
+returns c = search needs
+
+returns-2 : tie.Need-returns-2
+returns-2 c = sym (c .before .has-lone .ensures (c .if1 .left))
+
+pub lone-net-spec : {M : Type 1} → statement M
+lone-net-spec = tie.close (tie.spec has-lone-requires lone-requires returns returns-2)
