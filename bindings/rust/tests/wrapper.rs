@@ -2,6 +2,7 @@
 
 use pozqaben::{check, check_with, lay, lay_into, layer_view, read, survey, Kind, Laid, Reading, Refusal, Survey};
 use slow::tickets::DOCUMENT;
+use std::fmt::Debug;
 
 fn document(name: &str) -> &'static [u8] {
     DOCUMENT.iter().find(|(n, _)| *n == name).expect("a ticket of the document").1
@@ -32,26 +33,32 @@ fn survey_lines() {
     }
 }
 
-/// Each number is met, and its text names number, place and meaning.
+/// A refusal's text names number, place and meaning.
+fn say<T: Debug>(answer: Result<T, Refusal>, text: &str) {
+    assert_eq!(answer.unwrap_err().to_string(), text);
+}
+
 #[test]
-fn refusals() {
-    let say = |r: Result<(), Refusal>, text: &str| assert_eq!(r.unwrap_err().to_string(), text);
-    let reads = |t: &[u8]| read(t).map(|_| ());
-    say(reads(document("T1")), "refused 1 at 6: the ticket ends after 6 bytes, before one that is needed");
-    say(reads(&[0, 1, 1, 0]), "refused 2 at 0: byte 0, the kind, is none of 1 (row), 2 (channel) and 3 (box)");
-    say(reads(document("T4")), "refused 3 at 1: byte 1, the length n, is none of 1 to 90");
+fn refused_tickets() {
+    say(read(document("T1")), "refused 1 at 6: the ticket ends after 6 bytes, before one that is needed");
+    say(read(&[0, 1, 1, 0]), "refused 2 at 0: byte 0, the kind, is none of 1 (row), 2 (channel) and 3 (box)");
+    say(read(document("T4")), "refused 3 at 1: byte 1, the length n, is none of 1 to 90");
     say(
-        reads(&[1, 1, 9, 0]),
+        read(&[1, 1, 9, 0]),
         "refused 4 at 2: byte 2 is none of 1 to 90 (the width of a box) or of 1 to 8 (the trunk layers of a row or channel)",
     );
-    say(reads(&[1, 1, 1, 2]), "refused 5 at 3: byte 3, the side map, has a side that the kind has not");
-    say(reads(document("T3")), "refused 6 at 4: the position map at byte 4 has no bit, or a spare bit");
-    say(reads(&[1, 2, 1, 1, 3, 1, 181]), "refused 7 at 6: the net number at byte 6 is none of 1 to 180");
-    say(reads(&[1, 2, 1, 0, 5]), "refused 8 at 4: bytes are left over from byte 4 on");
-    say(reads(document("T2")), "refused 9 at 1: net 1 has one pin only");
+    say(read(&[1, 1, 1, 2]), "refused 5 at 3: byte 3, the side map, has a side that the kind has not");
+    say(read(document("T3")), "refused 6 at 4: the position map at byte 4 has no bit, or a spare bit");
+    say(read(&[1, 2, 1, 1, 3, 1, 181]), "refused 7 at 6: the net number at byte 6 is none of 1 to 180");
+    say(read(&[1, 2, 1, 0, 5]), "refused 8 at 4: bytes are left over from byte 4 on");
+    say(read(document("T2")), "refused 9 at 1: net 1 has one pin only");
+}
+
+#[test]
+fn refused_buffers_and_wirings() {
     let row = [1, 2, 1, 1, 3, 1, 1];
     say(
-        lay_into(&row, &mut [0; 3]).map(|_| ()),
+        lay_into(&row, &mut [0; 3]),
         "refused 10 at 4: the wiring buffer is shorter than the 4 bytes that the wiring takes",
     );
     say(
@@ -65,5 +72,5 @@ fn refusals() {
     );
     say(check(&row, 1, 2, false, &[1, 1, 1, 2]), "refused 14 at 3: the point at byte 3 of the wiring holds no net of the ticket");
     say(check(&row, 1, 2, false, &[1, 1, 0, 0]), "refused 15 at 1: net 1 is not in one piece");
-    say(layer_view(&[0; 4], 2, 1, 2, 3).map(|_| ()), "refused 16 at 3: the wiring has no layer 3");
+    say(layer_view(&[0; 4], 2, 1, 2, 3), "refused 16 at 3: the wiring has no layer 3");
 }
