@@ -1,21 +1,21 @@
--- What the inner functions of Check find, by index; cited by their contracts alone.
+-- What the inner functions of Check find, by index. Cited by their contracts alone: Check's own promise is in Check.antt.
 --
---   Listed g p list     the list has the pins p of the grid, each at its place, and no others
---   PinList pins list   the list has the four sides' places, 90 each
---   Put list side r from r is the list with a side's 90 places from `from` on
---   Holder p m v        one of the first m entries of the pin list holds v
---   First p a           pin a is the first in the list that holds its net
---   Firsts p s          each net's first pin is marked in s, and no other
---   Opened p s k top    of the first top pins: each net's first pin is marked in s, and k is 0 just for the numbers of no net (256 numbers; 0 counts as known)
---   FirstUnknown k x r  r is the first point of x whose number is unknown, or x's length
---   Unless known r      a pin's first mark: where its net was not known yet
---   Bare v mark r       r is v where that is a net without a mark, else 255
---   Least a b r         r is the smaller of a and b
---   Lowest x m top r    r is the smallest number but 0 that one of the first top entries of x holds without a mark in m, or 255
---   LowestOf p s x m r  r is the smallest net of a spot without a mark, or 0; 255 is no net
---   Marking g p x       marks that began with the first pins and have settled
---   Judges f list x r   r is what Check finds, whatever the pins that the list has
---   Torn g p x r        r is the smallest net with a spot that such marks leave out, or 0
+--   PinList pins list     the list has the four sides' places, 90 each
+--   Listed g p list       the list has the pins p of the grid, each at its place, and no others
+--   Put list side r from  r is the list with a side's 90 places from `from` on
+--   Holder p top v        one of the first top entries of the pin list holds v
+--   First p a             pin a is the first in the list that holds its net
+--   Firsts p s            each net's first pin is marked in s, and no other
+--   Opened p s k top      of the first top pins: each net's first is marked in s, and k is 0 just for the numbers of no net (of 256; 0 counts as known)
+--   FirstUnknown k x r    r is the first point of x whose number is unknown, or x's length
+--   Unless known r        r marks a pin whose net was not known yet
+--   Bare v mark r         r is v where that is a net without a mark, else 255
+--   Least a b r           r is the smaller of a and b
+--   Lowest x m top r      r is the smallest number but 0 that one of the first top entries of x holds without a mark in m, or 255
+--   Marking g p x s m     the marks s and m began with the first pins and have settled
+--   LowestOf p s x m r    r is the smallest net of a spot without a mark, or 0; 255 is no net
+--   Torn g p x r          r is the smallest net with a spot that settled marks leave out, or 0
+--   Judges f list x r     r is what Check finds, whatever the pins that the list has
 use Prim.Native.Nat.{ℕ, _+_, _≤_, _<_}
 use mathlib.Core.Path.{_≡_}
 use mathlib.Core.Logic.{_⊎_, _≢_}

@@ -1,4 +1,5 @@
--- The edges between spots, as the sweep's loops go over them: the joins of the grid, by index.
+-- The edges between spots, as the sweep's loops go over them: the joins of the grid, by index. Cited by the contracts of inner
+-- functions alone; Check's promise speaks of the grid's own joins.
 --
 --   Frame              (src) the grid's counts n, w, k and its first direction
 --   gridOf f           the grid of a frame

@@ -1,4 +1,5 @@
--- Marks on pins and points, and what a sweep adds to them.
+-- Marks on pins and points, and what a sweep adds to them. Cited by the contracts of inner
+-- functions alone; Check's promise speaks of the grid's own joins.
 --
 --   at list a          entry a of a buffer, counted from 0; 0 outside
 --   Spot               a place in the buffers: an entry of the pin list, or a point of the wiring

@@ -261,7 +261,7 @@ fn pins(p: &[u8], s: &mut [u8], x: &[u8], m: &mut [u8], f: Frame) -> usize
     made
 }
 
-// One sweep over all edges. How many marks it made.
+// One sweep over all edges. How many marks it made. (For our own crates.)
 pub fn sweep(p: &[u8], s: &mut [u8], x: &[u8], m: &mut [u8], f: Frame) -> usize
     requires { ⌜ Fits f (length (now p)) (length (now s)) (length (now x)) (length (now m)) ⌝ }
     ensures { λ r. ⌜ Swept (val (now (p .entry)) (now (x .entry))) (two (now (s .entry)) (now (m .entry))) (two (now (s .exit)) (now (m .exit))) (Edges (gridOf f)) r ⌝ }
@@ -286,7 +286,7 @@ pub fn age(m: &mut [u8])
     }
 }
 
-// Sweeps until one makes no mark.
+// Sweeps until one makes no mark. (For our own crates.)
 pub fn settle(p: &[u8], s: &mut [u8], x: &[u8], m: &mut [u8], f: Frame)
     requires { ⌜ Fits f (length (now p)) (length (now s)) (length (now x)) (length (now m)) ⌝ }
     ensures { λ r. ⌜ Settled (val (now (p .entry)) (now (x .entry))) (two (now (s .entry)) (now (m .entry))) (two (now (s .exit)) (now (m .exit))) (Edges (gridOf f)) ⌝ }

@@ -1,4 +1,5 @@
--- What a step of the walk does. The walk is there for speed alone: its contract says that what it marks is reached (Grown), no more.
+-- What a step of the walk does. The walk is there for speed alone: its contract says that what it marks is reached (Grown), no more. Cited by the contracts of inner
+-- functions alone; Check's promise speaks of the grid's own joins.
 --
 --   Cell                (src) a point on the way: its place in the buffer, its column, track and layer from 0, the next direction to try
 --   On g c              cell c is a point of the grid, at its place in the buffer

@@ -15,7 +15,7 @@ use sweep::Frame;
 
 // Point q of the buffer, in column i, track j and layer l, all from 0, and the next direction to try there: 1 to 4, 5 for none, so
 // that the walk goes back, 6 at the walk's end.
-pub struct Cell {
+struct Cell {
     pub q: usize,
     pub i: usize,
     pub j: usize,
@@ -434,7 +434,7 @@ fn take_up_all(p: &[u8], s: &mut [u8], x: &[u8], m: &mut [u8], f: Frame) -> usiz
     waited
 }
 
-// Walks from all marked pins, and from those that the walks reach. A pin waits once, so 360 rounds are enough.
+// Walks from all marked pins, and from those that the walks reach. A pin waits once, so 360 rounds are enough. (For our own crates.)
 pub fn spread(p: &[u8], s: &mut [u8], x: &[u8], m: &mut [u8], f: Frame)
     requires { ⌜ Fits f (length (now p)) (length (now s)) (length (now x)) (length (now m)) ⌝ }
     ensures { λ r. ⌜ Grown (val (now (p .entry)) (now (x .entry))) (two (now (s .entry)) (now (m .entry))) (two (now (s .exit)) (now (m .exit))) (Edges (gridOf f)) ⌝ }
