@@ -13,12 +13,13 @@ use Rattle.grid.specs.Grid.{upright, Side, north, south, west, east, point, Ins
 use Rattle.grid.specs.Legal.{topNet, wiringOf, entry, pinsOf}
 use Rattle.grid.specs.View.{longestSide, mostLayers}
 use Rattle.paint.specs.Paint.{Drawn}
+use Rattle.paint.specs.Laid.{Laid}
 use Rattle.paint.proofs.Laws.{drawn-wiring}
 use Rattle.trunks.specs.declared.Trunks.{Trunks}
 use Rattle.trunks.specs.Trunks.{Placed}
 use Rattle.channel_law.specs.Drawing.{Plan, Trunks as TrunksIn}
 use Rattle.channel_law.proofs.Legality.{row-legal, channel-legal}
-use Rattle.channel.specs.Laid.{columnPins, Given, Laid}
+use Rattle.channel.specs.Given.{columnPins, Given}
 use Rattle.channel.specs.Laying.{planOf, base, Seated, Crossed}
 use Rattle.channel.proofs.Plans.{none, spans, seated}
 

@@ -14,11 +14,12 @@ use Rattle.grid.specs.Legal.{Wiring, Legal, GridOf, box}
 use Rattle.density.specs.Density.{horizontals}
 use Rattle.ticket.specs.Read.{readOf, ticketPins}
 use Rattle.router.specs.declared.LayAnswer.{LayAnswer}
-use Rattle.router.specs.Lay.{gridOf, Laid}
+use Rattle.paint.specs.Laid.{Laid}
+use Rattle.router.specs.Lay.{gridOf}
 
 pub record Lays (s : List ℕ) (a : LayAnswer) (before after : List ℕ) : Type 0 where
   pub untouched : a .number ≢ 0 → after ≡ before
-  pub laid : a .number ≡ 0 → Laid a (ticketPins s) before after
+  pub laid : a .number ≡ 0 → Laid (gridOf a) (ticketPins s) before after
   pub narrowest : a .number ≡ 0 → a .kind ≢ box
       → (horizontals (gridOf a) ≡ readOf s .byte2)
       × ((g : Grid) (x : Wiring) → GridOf (a .kind) (a .n .0) (a .w .0) g → Legal g (ticketPins s) x → horizontals g ≤ readOf s .byte2 → a .w .0 ≤ g .w)

@@ -12,7 +12,7 @@ use lib.Dec.{eqb, ltb}
 use lib.ListN.{length, getD}
 use borrow.Author.Tests.{eq-eqb, ne-eqb}
 use Rattle.counting.specs.Counting.{In, ceil, bit}
-use Rattle.counting.proofs.Counts.{ceil-le}
+use Rattle.counting.proofs.Counts.{ceil-le, round-up}
 use Rattle.grid.specs.Grid.{Grid, upright, Side, north, south, west, east}
 use Rattle.grid.specs.Legal.{Pins, Wiring, Legal, GridOf, row, channel, box, topNet, entry, wiringOf}
 use Rattle.grid.specs.View.{longestSide, mostLayers}
@@ -26,11 +26,11 @@ use Rattle.ticket.specs.Format.{pinsIn}
 use Rattle.ticket.specs.Good.{gridIn, Good}
 use Rattle.survey.specs.declared.SurveyFigures.{SurveyFigures}
 use Rattle.survey.specs.Survey.{figuresOf, trunkFigures, boxFigures, layersFor}
-use Rattle.channel.specs.Laid.{columnPins, Given, Laid as ChannelLaid}
-use Rattle.switchbox.proofs.Assigned.{round-up}
-use Rattle.switchbox.specs.Wired.{boxLayers, boxGrid, BoxPins, BoxWired}
+use Rattle.paint.specs.Laid.{Laid}
+use Rattle.channel.specs.Given.{columnPins, Given}
+use Rattle.switchbox.specs.Wired.{boxLayers, boxGrid, BoxPins}
 use Rattle.router.specs.declared.LayAnswer.{LayAnswer}
-use Rattle.router.specs.Lay.{firstOf, needed, laidAnswer, gridOf, Laid}
+use Rattle.router.specs.Lay.{firstOf, needed, laidAnswer, gridOf}
 use Rattle.router.proofs.Few.{across-few}
 
 abbrev sized : ℕ → ℕ → ℕ → Bool → Grid
@@ -40,14 +40,9 @@ same-grid : (n : ℕ) {w w′ k k′ : ℕ} {b b′ : Bool} → w ≡ w′ → k
 same-grid n {w} {w′} {k} {k′} {b} {b′} e f h =
     ap (λ (u : ℕ). sized n u k b) e ∙ ap (λ (u : ℕ). sized n w′ u b) f ∙ ap (λ (u : Bool). sized n w′ k′ u) h
 
--- a wiring that is drawn in the grid that the answer speaks of
-laid-in : {r : LayAnswer} {p : Pins} {before after : List ℕ} (g : Grid) → g ≡ gridOf r → Legal g p (wiringOf g after) → length after ≡ length before
-    → ((b : ℕ) → g .n * g .w * g .k ≤ b → getD after b 0 ≡ getD before b 0) → Laid r p before after
-laid-in {r} {p} {before} {after} g e y long rest = record {
-  legal = subst (λ (h : Grid). Legal h p (wiringOf h after)) e y;
-  long = long;
-  rest = subst (λ (h : Grid). (b : ℕ) → h .n * h .w * h .k ≤ b → getD after b 0 ≡ getD before b 0) e rest;
-}
+-- a wiring that is laid in the grid that the answer speaks of
+laid-in : {g h : Grid} {p : Pins} {before after : List ℕ} → g ≡ h → Laid g p before after → Laid h p before after
+laid-in {p = p} {before = before} {after = after} e y = subst (λ (u : Grid). Laid u p before after) e y
 
 module _ (t : Ticket) where
   abbrev kind : ℕ
@@ -178,15 +173,14 @@ module _ (t : Ticket) where
       given-channel e = drawable (2 * byte2 + 1) (λ h. omega arith) (channel-layers e)
 
     module _ (w : ℕ) (same : w ≡ tracks) {before after : List ℕ} where
-      thin-laid : (k : ℕ) → kind ≢ box → layers ≡ k → ChannelLaid (upright n w k) (columnPins (t .pins .north) (t .pins .south)) before after → Laid (laidAnswer t) p before after
+      thin-laid : (k : ℕ) → kind ≢ box → layers ≡ k → Laid (upright n w k) (columnPins (t .pins .north) (t .pins .south)) before after → Laid (gridOf (laidAnswer t)) p before after
       thin-laid k h e y =
-          laid-in {r = laidAnswer t} (upright n w k) (same-grid n same (sym e) (sym (thin-first h)))
-          (subst (λ (q : Pins). Legal (upright n w k) q (wiringOf (upright n w k) after)) (sides h) (y .legal)) (y .long) (y .others)
+          laid-in (same-grid n same (sym e) (sym (thin-first h))) (subst (λ (q : Pins). Laid (upright n w k) q before after) (sides h) y)
 
-      pub row-laid : kind ≡ row → ChannelLaid (upright n w (2 * byte2)) (columnPins (t .pins .north) (t .pins .south)) before after → Laid (laidAnswer t) p before after
+      pub row-laid : kind ≡ row → Laid (upright n w (2 * byte2)) (columnPins (t .pins .north) (t .pins .south)) before after → Laid (gridOf (laidAnswer t)) p before after
       row-laid e = thin-laid (2 * byte2) (λ h. omega arith) (row-layers e)
 
-      pub channel-laid : kind ≡ channel → ChannelLaid (upright n w (2 * byte2 + 1)) (columnPins (t .pins .north) (t .pins .south)) before after → Laid (laidAnswer t) p before after
+      pub channel-laid : kind ≡ channel → Laid (upright n w (2 * byte2 + 1)) (columnPins (t .pins .north) (t .pins .south)) before after → Laid (gridOf (laidAnswer t)) p before after
       channel-laid e = thin-laid (2 * byte2 + 1) (λ h. omega arith) (channel-layers e)
 
     -- ---- boxes
@@ -202,9 +196,9 @@ module _ (t : Ticket) where
       room = subst₂ (λ (u v : ℕ). n * u * v ≤ length wiring) (box-tracks e) (box-layers e) room;
     }
 
-    pub box-laid : {before after : List ℕ} → kind ≡ box → BoxWired (t .pins .north) (t .pins .south) (t .pins .west) (t .pins .east) n byte2 before after
-        → Laid (laidAnswer t) p before after
-    box-laid {before} {after} e y = laid-in {r = laidAnswer t} (boxGrid n byte2) (same-grid n (sym (box-tracks e)) (sym (box-layers e)) (sym (box-first e))) (y .legal) (y .long) (y .rest)
+    pub box-laid : {before after : List ℕ} → kind ≡ box → Laid (boxGrid n byte2) p before after
+        → Laid (gridOf (laidAnswer t)) p before after
+    box-laid {before} {after} e y = laid-in (same-grid n (sym (box-tracks e)) (sym (box-layers e)) (sym (box-first e))) y
 
     -- ---- against every rival
 

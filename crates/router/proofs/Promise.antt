@@ -17,14 +17,15 @@ use Rattle.ticket.proofs.Good.{read-good}
 use Rattle.survey.specs.declared.SurveyFigures.{SurveyFigures}
 use Rattle.survey.specs.Survey.{figuresOf}
 use Rattle.router.specs.declared.LayAnswer.{LayAnswer}
-use Rattle.router.specs.Lay.{needed, laidAnswer, refused, layOf, gridOf, Laid}
+use Rattle.router.specs.Lay.{needed, laidAnswer, refused, layOf, gridOf}
+use Rattle.paint.specs.Laid.{Laid}
 use Rattle.router.proofs.Laws.{flat, no-narrower, no-lower}
 
 -- the clauses of Lay's contract, in their order, but for `untouched`, which is plain at each way out
 abbrev Promise : List ℕ → List ℕ → List ℕ → LayAnswer → Type 0
 Promise s before after r =
     (r ≡ layOf s (length before))
-    × (r .number ≡ 0 → Laid r (ticketPins s) before after)
+    × (r .number ≡ 0 → Laid (gridOf r) (ticketPins s) before after)
     × (r .number ≡ 0 → r .kind ≢ box → (horizontals (gridOf r) ≡ readOf s .byte2)
     × ((g : Grid) (x : Wiring) → GridOf (r .kind) (r .n .0) (r .w .0) g → Legal g (ticketPins s) x → horizontals g ≤ readOf s .byte2 → r .w .0 ≤ g .w))
     × (r .number ≡ 0 → r .kind ≡ box → (g : Grid) (x : Wiring) → GridOf (r .kind) (r .n .0) (r .w .0) g → Legal g (ticketPins s) x → r .floor .0 ≤ g .k)
@@ -45,13 +46,13 @@ module _ (s : List ℕ) (t : Ticket) (read : t ≡ ticketOf s) (before : List �
       (λ z q lt e. stays s before r (λ w. omega (arith, ap (λ (a : LayAnswer). a .number) e))
       (rw (eq-eqb (ticketOf s .answer .number) 0 z, lt-leb (needed (ticketOf s)) (length before) (omega arith)) (e ∙ ap (refused 10) q)))
 
-  pub laid : (after : List ℕ) → t .answer .number ≡ 0 → needed t ≤ length before → Laid (laidAnswer t) (pinsIn (t .pins)) before after → r ≡ laidAnswer t
+  pub laid : (after : List ℕ) → t .answer .number ≡ 0 → needed t ≤ length before → Laid (gridOf (laidAnswer t)) (pinsIn (t .pins)) before after → r ≡ laidAnswer t
       → Promise s before after r
   unfolding layOf
-  laid after = subst (λ (u : Ticket). u .answer .number ≡ 0 → needed u ≤ length before → Laid (laidAnswer u) (pinsIn (u .pins)) before after → r ≡ laidAnswer u
+  laid after = subst (λ (u : Ticket). u .answer .number ≡ 0 → needed u ≤ length before → Laid (gridOf (laidAnswer u)) (pinsIn (u .pins)) before after → r ≡ laidAnswer u
       → Promise s before after r) (sym read) done
     where
-      done : ticketOf s .answer .number ≡ 0 → needed (ticketOf s) ≤ length before → Laid (laidAnswer (ticketOf s)) (ticketPins s) before after → r ≡ laidAnswer (ticketOf s)
+      done : ticketOf s .answer .number ≡ 0 → needed (ticketOf s) ≤ length before → Laid (gridOf (laidAnswer (ticketOf s))) (ticketPins s) before after → r ≡ laidAnswer (ticketOf s)
           → Promise s before after r
       done z room y e = subst (λ (a : LayAnswer). Promise s before after a) (sym e) (
         rw (eq-eqb (ticketOf s .answer .number) 0 z, le-leb (needed (ticketOf s)) (length before) room),

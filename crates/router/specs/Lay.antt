@@ -6,16 +6,13 @@
 --   refused k p        "Each refusal is a number and a place .. the answer's other fields are 0", "a refusal gives no"
 --   layFor t size      Lay's answer to a reading, the buffer having so many bytes; "Those of Read; 10, wiring buffer shorter than n × w × k (place: the length needed)"
 --   layOf s size       the same of a ticket
---   gridOf r           the grid of the wiring that an answer speaks of
---   Laid r p before after   "the result is legal, with the counts above", "Bytes past n × w × k are untouched"
-use Prim.Native.Nat.{ℕ, _*_, _≤_}
-use mathlib.Core.Path.{_≡_}
+--   gridOf r           the grid of the wiring that an answer speaks of: "the result is legal, with the counts above"
+use Prim.Native.Nat.{ℕ, _*_}
 use mathlib.Core.Bool.{Bool, false, cond, _&&_}
 use mathlib.Core.List.{List}
 use lib.Dec.{eqb, leb, ltb}
-use lib.ListN.{length, getD}
 use Rattle.grid.specs.Grid.{Grid}
-use Rattle.grid.specs.Legal.{Pins, Legal, box, wiringOf}
+use Rattle.grid.specs.Legal.{box}
 use Rattle.ticket.specs.declared.Ticket.{Ticket}
 use Rattle.ticket.specs.Read.{ticketOf}
 use Rattle.survey.specs.declared.SurveyFigures.{SurveyFigures}
@@ -74,8 +71,3 @@ layOf s size = layFor (ticketOf s) size
 
 abbrev pub gridOf : LayAnswer → Grid
 gridOf r = record { n = r .n .0; w = r .w .0; k = r .k .0; first = r .first }
-
-pub record Laid (r : LayAnswer) (p : Pins) (before after : List ℕ) : Type 0 where
-  pub legal : Legal (gridOf r) p (wiringOf (gridOf r) after)
-  pub long : length after ≡ length before
-  pub rest : (b : ℕ) → r .n .0 * r .w .0 * r .k .0 ≤ b → getD after b 0 ≡ getD before b 0

@@ -15,7 +15,8 @@ ghost use Rattle.ticket.specs.Format.{pinsIn};
 ghost use Rattle.ticket.specs.Good.{Good};
 ghost use Rattle.ticket.specs.Read.{readOf, ticketPins};
 ghost use Rattle.survey.specs.Survey.{figuresOf};
-ghost use Rattle.router.specs.Lay.{firstOf, needed, laidAnswer, refused, layOf, gridOf, Laid};
+ghost use Rattle.paint.specs.Laid.{Laid};
+ghost use Rattle.router.specs.Lay.{firstOf, needed, laidAnswer, refused, layOf, gridOf};
 
 pub struct LayAnswer {
     pub number: u8,
@@ -87,7 +88,7 @@ fn answer(t: Ticket, f: SurveyFigures) -> LayAnswer
 // The wiring of an accepted ticket, into a buffer that is long enough.
 fn draw(t: Ticket, w: Track, wiring: &mut [u8])
     requires { ⌜ Good t × (w .0 ≡ figuresOf t .w .0) × (needed t ≤ length (now wiring)) ⌝ }
-    ensures { λ _. ⌜ Laid (laidAnswer t) (pinsIn (t .pins)) (now (wiring .entry)) (now (wiring .exit)) ⌝ }
+    ensures { λ _. ⌜ Laid (gridOf (laidAnswer t)) (pinsIn (t .pins)) (now (wiring .entry)) (now (wiring .exit)) ⌝ }
 {
     let kind = t.answer.kind;
     let n = t.answer.n;
@@ -113,7 +114,7 @@ fn draw(t: Ticket, w: Track, wiring: &mut [u8])
 pub fn lay(ticket: &[u8], wiring: &mut [u8]) -> LayAnswer
     ensures answer { λ r. ⌜ r ≡ layOf (now (ticket .entry)) (length (now (wiring .entry))) ⌝ }
     ensures untouched { λ r. ⌜ (r .number ≢ 0 → now (wiring .exit) ≡ now (wiring .entry)) ⌝ }
-    ensures laid { λ r. ⌜ (r .number ≡ 0 → Laid r (ticketPins (now (ticket .entry))) (now (wiring .entry)) (now (wiring .exit))) ⌝ }
+    ensures laid { λ r. ⌜ (r .number ≡ 0 → Laid (gridOf r) (ticketPins (now (ticket .entry))) (now (wiring .entry)) (now (wiring .exit))) ⌝ }
     ensures narrowest { λ r. ⌜ (r .number ≡ 0 → r .kind ≢ box →
         (horizontals (gridOf r) ≡ readOf (now (ticket .entry)) .byte2)
         × ((g : Grid) (x : Wiring) → GridOf (r .kind) (r .n .0) (r .w .0) g → Legal g (ticketPins (now (ticket .entry))) x

@@ -4,12 +4,12 @@ use mathlib.Core.Path.{_≡_, refl, sym, ap, subst, _∙_, fun-ext}
 use mathlib.Core.List.{List}
 use mathlib.Core.Bool.{Bool, true, false}
 use native.Mathlib.Omega.{arith}
-use native.Mathlib.Nat.{div-add-mod', mod-lt, add-mul, mul-le-mul-right}
+use native.Mathlib.Nat.{add-mul, mul-le-mul-right}
 use lib.Dec.{eqb}
 use lib.ListN.{length, take}
 use lib.Seq.{getD-take, length-take-le}
 use Rattle.counting.specs.Counting.{In, ceil}
-use Rattle.counting.proofs.Counts.{count-same, count-le, ceil-le}
+use Rattle.counting.proofs.Counts.{count-same, count-le, ceil-le, round-up}
 use Rattle.grid.specs.Grid.{Side, north, south, west, east}
 use Rattle.grid.specs.Legal.{topNet, entry, pinsOf}
 use Rattle.grid.specs.View.{longestSide}
@@ -46,15 +46,6 @@ lanes-same {want} {want′} {own} {w} {k} s same le d = record {
     here : (i : ℕ) → In i k → entry (take k s) i ≡ entry s i
     here zero h = absurd (omega arith)
     here (suc i) h = getD-take k s i 0 (omega arith)
-
--- q × w is n, rounded up to a multiple of w
-pub round-up : (n w : ℕ) → 1 ≤ w → (n ≤ ceil n w * w) × (ceil n w * w < n + w)
-unfolding ceil
-round-up n w h =
-    let x = n + (w - 1) in
-    let e : x / w * w + x % w ≡ x = div-add-mod' x w in
-    let r : x % w < w = mod-lt x h in
-    omega arith
 
 module _ {a b c d ca cb cc′ cd before : List ℕ} (box : Canonical a b c d ca cb cc′ cd before) where
   north-counts : (m : ℕ) → m < 181 → tallies ca cb cc′ cd m ≡ tally (standing (length a) (length c)) (pinsOf a b c d) m

@@ -8,6 +8,7 @@ use native.Mathlib.Omega.{arith}
 use native.Mathlib.Decide.{decLe}
 use lib.ListN.{length}
 use Rattle.counting.specs.Counting.{In, ceil}
+use Rattle.counting.proofs.Counts.{round-up}
 use Rattle.grid.specs.Grid.{Side, north, south, west, east, places}
 use Rattle.grid.specs.Legal.{Pins, entry, pinsOf}
 use Rattle.grid.proofs.Pins.{Numbered}
@@ -17,7 +18,6 @@ use Rattle.switchbox_law.proofs.Renaming.{renamed, renamed-legal, most-renamed}
 use Rattle.lanes.specs.Tables.{Nets, Counted}
 use Rattle.switchbox.specs.Box.{mirrorOf, Sides, standing, Tables, Upright, Canonical, Chosen}
 use Rattle.switchbox.specs.Layers.{LaidAs, Wired}
-use Rattle.switchbox.proofs.Assigned.{round-up}
 
 pub last-mirror : (m : ℕ) → m ≢ 0 → m ≢ 1 → m ≢ 2 → mirrorOf m ≡ both
 last-mirror zero a b c = absurd (a refl)

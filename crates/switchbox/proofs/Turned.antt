@@ -16,11 +16,12 @@ use Rattle.grid.specs.View.{longestSide}
 use Rattle.grid.proofs.Motion.{turn, movedPins}
 use Rattle.grid.proofs.Motions.{legal-same, moved-back, turn-over, turn-back}
 use Rattle.paint.specs.Paint.{Drawn}
+use Rattle.paint.specs.Laid.{Laid}
 use Rattle.paint.proofs.Laws.{drawn-wiring}
 use Rattle.lanes.specs.Tables.{Nets}
 use Rattle.switchbox.specs.Box.{standing, Upright}
 use Rattle.switchbox.specs.Layers.{DrawnAs, Wired}
-use Rattle.switchbox.specs.Wired.{boxLayers, BoxPins, BoxWired}
+use Rattle.switchbox.specs.Wired.{boxLayers, boxGrid, BoxPins}
 
 entry-take : (n : ℕ) (xs : List ℕ) (i : ℕ) → In i n → entry (take n xs) i ≡ entry xs i
 entry-take n xs zero h = absurd (omega arith)
@@ -60,11 +61,11 @@ sized {a} {b} {c} {d} {before} {after} turned en ew l =
 -- a drawing whose wiring is legal for the pins of the sides
 wired-as : (first : Bool) (ns ss ws es : List ℕ) (n w : ℕ) {before after : List ℕ} {k : ℕ} {x : Wiring} → boxLayers n w ≡ k → ltb n w ≡ first
     → Legal (record { n = n; w = w; k = k; first = first }) (pinsOf (take n ns) (take n ss) (take w ws) (take w es)) x → Drawn n w before after k x
-    → BoxWired ns ss ws es n w before after
+    → Laid (boxGrid n w) (pinsOf ns ss ws es) before after
 wired-as first ns ss ws es n w {before} {after} {k} {x} layers dir legal d = record {
   legal = rw (layers, dir) (legal-same seen legal);
   long = d .long;
-  rest = λ b h. d .others b (omega (arith, mul-comm k (n * w), ap (λ (v : ℕ). n * w * v) layers));
+  others = λ b h. d .others b (omega (arith, mul-comm k (n * w), ap (λ (v : ℕ). n * w * v) layers));
 }
   where
     seen : (u : Node) → Inside (record { n = n; w = w; k = k; first = first }) u
@@ -117,12 +118,12 @@ module _ {ns ss ws es before : List ℕ} {n w : ℕ} (box : BoxPins ns ss ws es 
     room = rw (long-e, long-s, ← layers-wide n w h, mul-comm (boxLayers n w) (w * n), mul-comm w n) (box .room);
   }
 
-  pub upright-wired : {after : List ℕ} → w ≤ n → Wired false (take n ns) (take n ss) (take w ws) (take w es) before after → BoxWired ns ss ws es n w before after
+  pub upright-wired : {after : List ℕ} → w ≤ n → Wired false (take n ns) (take n ss) (take w ws) (take w es) before after → Laid (boxGrid n w) (pinsOf ns ss ws es) before after
   upright-wired {after} h l =
       let (legal, d) = sized false long-n long-w l in
       wired-as false ns ss ws es n w (layers-long n w h) (le-ltb n w h) legal (d .is)
 
-  pub turned-wired : {after : List ℕ} → n < w → Wired true (take w es) (take w ws) (take n ss) (take n ns) before after → BoxWired ns ss ws es n w before after
+  pub turned-wired : {after : List ℕ} → n < w → Wired true (take w es) (take w ws) (take n ss) (take n ns) before after → Laid (boxGrid n w) (pinsOf ns ss ws es) before after
   turned-wired {after} h l =
       let (legal, d) = sized true long-e long-s l in
       let g = lying n w (2 * ceil w n + 4) in

@@ -1,18 +1,15 @@
--- What `lay_box` asks and promises.
+-- What `lay_box` asks, and the grid of the wiring that it promises.
 --
 --   boxLayers n w                    "exactly 2q + 4 layers, q = longer side/shorter side, rounded up"
 --   boxGrid n w                      the grid of the wiring that is laid; "The first is vertical where n ≥ w, otherwise horizontal"
 --   BoxPins north south west east n w wiring    the sides hold nets or 0 at their places, and the buffer is long enough
---   BoxWired north south west east n w before after
---                                    the buffer holds a legal wiring of the box; "Bytes past n × w × k are untouched"
 use Prim.Native.Nat.{ℕ, _+_, _*_, _≤_, _<_, min, max}
-use mathlib.Core.Path.{_≡_}
 use mathlib.Core.List.{List}
 use lib.Dec.{ltb}
 use lib.ListN.{length, getD}
 use Rattle.counting.specs.Counting.{In, ceil}
 use Rattle.grid.specs.Grid.{Grid}
-use Rattle.grid.specs.Legal.{Legal, topNet, wiringOf, pinsOf}
+use Rattle.grid.specs.Legal.{topNet}
 use Rattle.grid.specs.View.{longestSide}
 
 abbrev pub boxLayers : ℕ → ℕ → ℕ
@@ -29,8 +26,3 @@ pub record BoxPins (north south west east : List ℕ) (n w : ℕ) (wiring : List
   pub wests : (j : ℕ) → j < w → getD west j 0 ≤ topNet
   pub easts : (j : ℕ) → j < w → getD east j 0 ≤ topNet
   pub room : n * w * boxLayers n w ≤ length wiring
-
-pub record BoxWired (north south west east : List ℕ) (n w : ℕ) (before after : List ℕ) : Type 0 where
-  pub legal : Legal (boxGrid n w) (pinsOf north south west east) (wiringOf (boxGrid n w) after)
-  pub long : length after ≡ length before
-  pub rest : (b : ℕ) → n * w * boxLayers n w ≤ b → getD after b 0 ≡ getD before b 0

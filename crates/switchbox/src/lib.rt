@@ -4,10 +4,11 @@ ghost use mathlib.Core.Path.{_≡_};
 ghost use mathlib.Core.Bool.{cond};
 ghost use Prim.Native.Nat.{_+_, _*_, _≤_};
 ghost use lib.ListN.{length, getD};
-ghost use Rattle.grid.specs.Legal.{nets};
+ghost use Rattle.grid.specs.Legal.{nets, pinsOf};
+ghost use Rattle.paint.specs.Laid.{Laid};
 ghost use Rattle.switchbox_law.specs.Drawing.{Top};
 ghost use Rattle.switchbox.specs.Box.{cornerAt, mirrorOf, Upright, Canonical};
-ghost use Rattle.switchbox.specs.Wired.{BoxPins, BoxWired};
+ghost use Rattle.switchbox.specs.Wired.{boxGrid, BoxPins};
 ghost use Rattle.switchbox.specs.Layers.{PaintedAs, DrawnAs, Lined, trackLines, Drawable, boxLines, LaidAs, Wired};
 
 // How many nets are on just two sides that meet; a and b are the counts there, c and d those across.
@@ -222,7 +223,7 @@ pub fn lay_box(
     wiring: &mut [u8],
 )
     requires { ⌜ BoxPins (now north) (now south) (now west) (now east) n w (now wiring) ⌝ }
-    ensures { λ _. ⌜ BoxWired (now (north .entry)) (now (south .entry)) (now (west .entry)) (now (east .entry)) n w (now (wiring .entry)) (now (wiring .exit)) ⌝ }
+    ensures { λ _. ⌜ Laid (boxGrid n w) (pinsOf (now (north .entry)) (now (south .entry)) (now (west .entry)) (now (east .entry))) (now (wiring .entry)) (now (wiring .exit)) ⌝ }
 {
     let a = &north[..];
     let b = &south[..];

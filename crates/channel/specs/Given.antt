@@ -1,17 +1,15 @@
--- What laying a row or a channel promises, and what it asks of the caller.
+-- What laying a row or a channel asks of the caller.
 --
 --   columnPins north south         the pins of a row or a channel: none to the west and the east
 --   mostTrunks                     "h, the number of trunk (horizontal) layers, 1 to 8"
 --   Given north south n w h k x    sizes that a ticket can have, pins that are nets' or empty, as many tracks as across asks of h trunk layers,
 --                                  and a buffer x that holds the grid
---   Laid g p before after          the buffer holds a legal wiring, and "Bytes past n × w × k are untouched"
 use Prim.Native.Nat.{ℕ, _*_, _≤_}
-use mathlib.Core.Path.{_≡_}
 use mathlib.Core.List.{List, []}
 use lib.ListN.{length, getD}
 use Rattle.counting.specs.Counting.{In}
-use Rattle.grid.specs.Grid.{Grid, upright}
-use Rattle.grid.specs.Legal.{Pins, Legal, topNet, wiringOf, pinsOf}
+use Rattle.grid.specs.Grid.{upright}
+use Rattle.grid.specs.Legal.{Pins, topNet, pinsOf}
 use Rattle.grid.specs.View.{longestSide}
 use Rattle.density.specs.Density.{across}
 
@@ -29,8 +27,3 @@ pub record Given (north south : List ℕ) (n w h k : ℕ) (x : List ℕ) : Type 
   pub souths : (a : ℕ) → getD south a 0 ≤ topNet
   pub passed : across (upright n w k) (columnPins north south) ≤ h * w
   pub room : n * w * k ≤ length x
-
-pub record Laid (g : Grid) (p : Pins) (before after : List ℕ) : Type 0 where
-  pub legal : Legal g p (wiringOf g after)
-  pub long : length after ≡ length before
-  pub others : (b : ℕ) → g .n * g .w * g .k ≤ b → getD after b 0 ≡ getD before b 0
