@@ -38,6 +38,17 @@ fn claim(x: &[u8], m: &mut [u8], b: usize, v: u8, d: u8) -> bool
     true
 }
 
+// The same, where the test holds.
+fn claim_if(test: bool, x: &[u8], m: &mut [u8], b: usize, v: u8, d: u8) -> bool
+    requires { ⌜ (b < length (now x)) × (b < length (now m)) ⌝ }
+    ensures { λ r. ⌜ Claimed (now (x .entry)) (now (m .entry)) (now (m .exit)) b v d r × (r ≡ true → test ≡ true) ⌝ }
+{
+    if test {
+        return claim(x, m, b, v, d);
+    }
+    false
+}
+
 // The next point in the layer's own direction, or c where the grid ends; d is to be tried there.
 fn ahead(c: Cell, f: Frame, d: u8) -> Cell
     requires { ⌜ Shape f × On (gridOf f) c ⌝ }
@@ -180,17 +191,17 @@ fn retreat(c: Cell, mark: u8, f: Frame) -> Cell
     }
 }
 
-// On to the point below where it can be marked, or else back.
+// On to the point below where it can be marked, or else back. The point that the walk came from is marked: it is not tried, to save time.
 fn try_below(x: &[u8], m: &mut [u8], c: Cell, v: u8, f: Frame) -> Cell
     requires { ⌜ Ready f (now x) (now m) c v ⌝ }
     ensures { λ r. ⌜ Moved (gridOf f) (now (x .entry)) (now (m .entry)) (now (m .exit)) r ⌝ }
 {
+    let q = c.q;
     let to = below(c, f, 1);
     let b = to.q;
-    if claim(x, m, b, v, 4) {
+    if claim_if(m[q] != 3, x, m, b, v, 4) {
         return to;
     }
-    let q = c.q;
     retreat(c, m[q], f)
 }
 
@@ -199,9 +210,10 @@ fn try_above(x: &[u8], m: &mut [u8], c: Cell, v: u8, f: Frame) -> Cell
     requires { ⌜ Ready f (now x) (now m) c v ⌝ }
     ensures { λ r. ⌜ Moved (gridOf f) (now (x .entry)) (now (m .entry)) (now (m .exit)) r ⌝ }
 {
+    let q = c.q;
     let to = above(c, f, 1);
     let b = to.q;
-    if claim(x, m, b, v, 3) {
+    if claim_if(m[q] != 4, x, m, b, v, 3) {
         return to;
     }
     try_below(x, m, c, v, f)
@@ -211,9 +223,10 @@ fn try_behind(x: &[u8], m: &mut [u8], c: Cell, v: u8, f: Frame) -> Cell
     requires { ⌜ Ready f (now x) (now m) c v ⌝ }
     ensures { λ r. ⌜ Moved (gridOf f) (now (x .entry)) (now (m .entry)) (now (m .exit)) r ⌝ }
 {
+    let q = c.q;
     let to = behind(c, f, 1);
     let b = to.q;
-    if claim(x, m, b, v, 2) {
+    if claim_if(m[q] != 1, x, m, b, v, 2) {
         return to;
     }
     try_above(x, m, c, v, f)
@@ -223,26 +236,16 @@ fn try_ahead(x: &[u8], m: &mut [u8], c: Cell, v: u8, f: Frame) -> Cell
     requires { ⌜ Ready f (now x) (now m) c v ⌝ }
     ensures { λ r. ⌜ Moved (gridOf f) (now (x .entry)) (now (m .entry)) (now (m .exit)) r ⌝ }
 {
+    let q = c.q;
     let to = ahead(c, f, 1);
     let b = to.q;
-    if claim(x, m, b, v, 1) {
+    if claim_if(m[q] != 2, x, m, b, v, 1) {
         return to;
     }
     try_behind(x, m, c, v, f)
 }
 
-// Pin a is marked, to be walked from, where the point at hand touches it and it holds v.
-fn claim_if(is: bool, p: &[u8], s: &mut [u8], a: usize, v: u8) -> bool
-    requires { ⌜ (a < length (now p)) × (a < length (now s)) ⌝ }
-    ensures { λ r. ⌜ Claimed (now (p .entry)) (now (s .entry)) (now (s .exit)) a v 1 r × (r ≡ true → is ≡ true) ⌝ }
-{
-    if is {
-        return claim(p, s, a, v, 1);
-    }
-    false
-}
-
-// The pins that cell c touches.
+// The pins that cell c touches are marked, to be walked from, where they hold v.
 fn meet(p: &[u8], s: &mut [u8], c: Cell, v: u8, f: Frame)
     requires { ⌜ Shape f × On (gridOf f) c × (length (now p) ≡ 360) × (length (now s) ≡ 360) ⌝ }
     ensures { λ r. ⌜ Met (gridOf f) (now (p .entry)) (now (s .entry)) (now (s .exit)) (c .q) v ⌝ }
@@ -254,12 +257,12 @@ fn meet(p: &[u8], s: &mut [u8], c: Cell, v: u8, f: Frame)
     let j = c.j;
     let l = c.l;
     if sweep::is_horizontal(l, first) {
-        claim_if(i == 0, p, s, 180 + j, v);
-        claim_if(i + 1 == n, p, s, 270 + j, v);
+        claim_if(i == 0, p, s, 180 + j, v, 1);
+        claim_if(i + 1 == n, p, s, 270 + j, v, 1);
         return;
     }
-    claim_if(j == 0, p, s, 90 + i, v);
-    claim_if(j + 1 == w, p, s, i, v);
+    claim_if(j == 0, p, s, 90 + i, v, 1);
+    claim_if(j + 1 == w, p, s, i, v, 1);
 }
 
 // One step of the walk: on, where a direction is left to try, or else back.

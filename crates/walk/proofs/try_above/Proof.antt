@@ -10,10 +10,15 @@ use Rattle.walk.proofs.try_above.Tie as tie
 above-requires : tie.Need-above-requires
 above-requires c κs = search needs
 
-claim-requires : tie.Need-claim-requires
-claim-requires c κs =
+slice-read-claim-if : tie.Need-slice-read-claim-if
+slice-read-claim-if c =
     let start = c .before .before .before .before in
-    let above = c .before .above in
+    within (start .args .f) (now (start .args .x)) (now (start .args .m)) (start .args .c) (start .pre .fits) (start .pre .cell) .1
+
+claim-if-requires : tie.Need-claim-if-requires
+claim-if-requires c κs =
+    let start = c .before .before .before .before .before in
+    let above = c .before .before .above in
     within (start .args .f) (now (start .args .x)) (now (start .args .m)) (above .result) (start .pre .fits) (above .ensures .cell)
 
 same-length : tie.Need-same-length
@@ -21,34 +26,35 @@ same-length c = search needs
 
 returns : tie.Need-returns
 returns c =
-    let start = c .before .before .before .before .before .before .before .before in
-    let above = c .before .before .before .before .before .above in
-    let claim = c .before .before .before .claim in
-    record { cell = above .ensures .cell; grown = tried (start .args .f) (now (start .args .x)) (now (start .args .m)) (claim .last .1 .0) (start .args .c) (above .result) (start .args .v) _ _ (start .pre) (above .ensures) (claim .ensures) (λ z. omega arith) }
+    let start = c .before .before .before .before .before .before .before .before .before in
+    let above = c .before .before .before .before .before .before .above in
+    let claim = c .before .before .before .claim-if in
+    record { cell = above .ensures .cell; grown = tried (start .args .f) (now (start .args .x)) (now (start .args .m)) (claim .last .1 .1 .0) (start .args .c) (above .result) (start .args .v) _ _ (start .pre) (above .ensures) (claim .ensures .0) (λ z. omega arith) }
 
 try-below-requires : tie.Need-try-below-requires
 try-below-requires c κs =
-    let start = c .before .before .before .before .before .before .before .before .before in
-    let claim = c .before .before .before .before .claim in
-    let above = c .before .before .before .before .before .before .above in
-    still-ready (start .args .f) (now (start .args .x)) (now (start .args .m)) (claim .last .1 .0) (start .args .c) (start .args .v) (start .pre) (tried (start .args .f) (now (start .args .x)) (now (start .args .m)) (claim .last .1 .0) (start .args .c) (above .result) (start .args .v) _ _ (start .pre) (above .ensures) (claim .ensures) (λ z. omega arith)) (claim .kept .1 .0)
+    let start = c .before .before .before .before .before .before .before .before .before .before in
+    let claim = c .before .before .before .before .claim-if in
+    let above = c .before .before .before .before .before .before .before .above in
+    still-ready (start .args .f) (now (start .args .x)) (now (start .args .m)) (claim .last .1 .1 .0) (start .args .c) (start .args .v) (start .pre) (tried (start .args .f) (now (start .args .x)) (now (start .args .m)) (claim .last .1 .1 .0) (start .args .c) (above .result) (start .args .v) _ _ (start .pre) (above .ensures) (claim .ensures .0) (λ z. omega arith)) (claim .kept .1 .1 .0)
 
 same-length-2 : tie.Need-same-length-2
 same-length-2 c = search needs
 
 returns-2 : tie.Need-returns-2
 returns-2 c =
-    let start = c .before .before .before .before .before .before .before .before .before .before .before .before in
-    let claim = c .before .before .before .before .before .before .before .claim in
-    let above = c .before .before .before .before .before .before .before .before .before .above in
-    moved-then (gridOf (start .args .f)) (now (start .args .x)) (now (start .args .m)) (claim .last .1 .0) _ _ (tried (start .args .f) (now (start .args .x)) (now (start .args .m)) (claim .last .1 .0) (start .args .c) (above .result) (start .args .v) _ _ (start .pre) (above .ensures) (claim .ensures) (λ z. omega arith)) (c .before .before .try-below .ensures)
+    let start = c .before .before .before .before .before .before .before .before .before .before .before .before .before in
+    let claim = c .before .before .before .before .before .before .before .claim-if in
+    let above = c .before .before .before .before .before .before .before .before .before .before .above in
+    moved-then (gridOf (start .args .f)) (now (start .args .x)) (now (start .args .m)) (claim .last .1 .1 .0) _ _ (tried (start .args .f) (now (start .args .x)) (now (start .args .m)) (claim .last .1 .1 .0) (start .args .c) (above .result) (start .args .v) _ _ (start .pre) (above .ensures) (claim .ensures .0) (λ z. omega arith)) (c .before .before .try-below .ensures)
 
 pub try-above-spec : {M : Type 1} → statement M
 try-above-spec =
     tie.close
     (tie.spec
     above-requires
-    claim-requires
+    slice-read-claim-if
+    claim-if-requires
     same-length
     returns
     try-below-requires

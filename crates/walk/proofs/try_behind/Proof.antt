@@ -10,10 +10,15 @@ use Rattle.walk.proofs.try_behind.Tie as tie
 behind-requires : tie.Need-behind-requires
 behind-requires c κs = search needs
 
-claim-requires : tie.Need-claim-requires
-claim-requires c κs =
+slice-read-claim-if : tie.Need-slice-read-claim-if
+slice-read-claim-if c =
     let start = c .before .before .before .before in
-    let behind = c .before .behind in
+    within (start .args .f) (now (start .args .x)) (now (start .args .m)) (start .args .c) (start .pre .fits) (start .pre .cell) .1
+
+claim-if-requires : tie.Need-claim-if-requires
+claim-if-requires c κs =
+    let start = c .before .before .before .before .before in
+    let behind = c .before .before .behind in
     within (start .args .f) (now (start .args .x)) (now (start .args .m)) (behind .result) (start .pre .fits) (behind .ensures .cell)
 
 same-length : tie.Need-same-length
@@ -21,34 +26,35 @@ same-length c = search needs
 
 returns : tie.Need-returns
 returns c =
-    let start = c .before .before .before .before .before .before .before .before in
-    let behind = c .before .before .before .before .before .behind in
-    let claim = c .before .before .before .claim in
-    record { cell = behind .ensures .cell; grown = tried (start .args .f) (now (start .args .x)) (now (start .args .m)) (claim .last .1 .0) (start .args .c) (behind .result) (start .args .v) _ _ (start .pre) (behind .ensures) (claim .ensures) (λ z. omega arith) }
+    let start = c .before .before .before .before .before .before .before .before .before in
+    let behind = c .before .before .before .before .before .before .behind in
+    let claim = c .before .before .before .claim-if in
+    record { cell = behind .ensures .cell; grown = tried (start .args .f) (now (start .args .x)) (now (start .args .m)) (claim .last .1 .1 .0) (start .args .c) (behind .result) (start .args .v) _ _ (start .pre) (behind .ensures) (claim .ensures .0) (λ z. omega arith) }
 
 try-above-requires : tie.Need-try-above-requires
 try-above-requires c κs =
-    let start = c .before .before .before .before .before .before .before .before .before in
-    let claim = c .before .before .before .before .claim in
-    let behind = c .before .before .before .before .before .before .behind in
-    still-ready (start .args .f) (now (start .args .x)) (now (start .args .m)) (claim .last .1 .0) (start .args .c) (start .args .v) (start .pre) (tried (start .args .f) (now (start .args .x)) (now (start .args .m)) (claim .last .1 .0) (start .args .c) (behind .result) (start .args .v) _ _ (start .pre) (behind .ensures) (claim .ensures) (λ z. omega arith)) (claim .kept .1 .0)
+    let start = c .before .before .before .before .before .before .before .before .before .before in
+    let claim = c .before .before .before .before .claim-if in
+    let behind = c .before .before .before .before .before .before .before .behind in
+    still-ready (start .args .f) (now (start .args .x)) (now (start .args .m)) (claim .last .1 .1 .0) (start .args .c) (start .args .v) (start .pre) (tried (start .args .f) (now (start .args .x)) (now (start .args .m)) (claim .last .1 .1 .0) (start .args .c) (behind .result) (start .args .v) _ _ (start .pre) (behind .ensures) (claim .ensures .0) (λ z. omega arith)) (claim .kept .1 .1 .0)
 
 same-length-2 : tie.Need-same-length-2
 same-length-2 c = search needs
 
 returns-2 : tie.Need-returns-2
 returns-2 c =
-    let start = c .before .before .before .before .before .before .before .before .before .before .before .before in
-    let claim = c .before .before .before .before .before .before .before .claim in
-    let behind = c .before .before .before .before .before .before .before .before .before .behind in
-    moved-then (gridOf (start .args .f)) (now (start .args .x)) (now (start .args .m)) (claim .last .1 .0) _ _ (tried (start .args .f) (now (start .args .x)) (now (start .args .m)) (claim .last .1 .0) (start .args .c) (behind .result) (start .args .v) _ _ (start .pre) (behind .ensures) (claim .ensures) (λ z. omega arith)) (c .before .before .try-above .ensures)
+    let start = c .before .before .before .before .before .before .before .before .before .before .before .before .before in
+    let claim = c .before .before .before .before .before .before .before .claim-if in
+    let behind = c .before .before .before .before .before .before .before .before .before .before .behind in
+    moved-then (gridOf (start .args .f)) (now (start .args .x)) (now (start .args .m)) (claim .last .1 .1 .0) _ _ (tried (start .args .f) (now (start .args .x)) (now (start .args .m)) (claim .last .1 .1 .0) (start .args .c) (behind .result) (start .args .v) _ _ (start .pre) (behind .ensures) (claim .ensures .0) (λ z. omega arith)) (c .before .before .try-above .ensures)
 
 pub try-behind-spec : {M : Type 1} → statement M
 try-behind-spec =
     tie.close
     (tie.spec
     behind-requires
-    claim-requires
+    slice-read-claim-if
+    claim-if-requires
     same-length
     returns
     try-above-requires

@@ -9,10 +9,15 @@ use Rattle.walk.proofs.try_below.Tie as tie
 below-requires : tie.Need-below-requires
 below-requires c κs = search needs
 
-claim-requires : tie.Need-claim-requires
-claim-requires c κs =
+slice-read-claim-if : tie.Need-slice-read-claim-if
+slice-read-claim-if c =
     let start = c .before .before .before .before in
-    let below = c .before .below in
+    within (start .args .f) (now (start .args .x)) (now (start .args .m)) (start .args .c) (start .pre .fits) (start .pre .cell) .1
+
+claim-if-requires : tie.Need-claim-if-requires
+claim-if-requires c κs =
+    let start = c .before .before .before .before .before in
+    let below = c .before .before .below in
     within (start .args .f) (now (start .args .x)) (now (start .args .m)) (below .result) (start .pre .fits) (below .ensures .cell)
 
 same-length : tie.Need-same-length
@@ -20,15 +25,15 @@ same-length c = search needs
 
 returns : tie.Need-returns
 returns c =
-    let start = c .before .before .before .before .before .before .before .before in
-    let below = c .before .before .before .before .before .below in
-    let claim = c .before .before .before .claim in
-    record { cell = below .ensures .cell; grown = tried (start .args .f) (now (start .args .x)) (now (start .args .m)) (claim .last .1 .0) (start .args .c) (below .result) (start .args .v) _ _ (start .pre) (below .ensures) (claim .ensures) (λ z. omega arith) }
+    let start = c .before .before .before .before .before .before .before .before .before in
+    let below = c .before .before .before .before .before .before .below in
+    let claim = c .before .before .before .claim-if in
+    record { cell = below .ensures .cell; grown = tried (start .args .f) (now (start .args .x)) (now (start .args .m)) (claim .last .1 .1 .0) (start .args .c) (below .result) (start .args .v) _ _ (start .pre) (below .ensures) (claim .ensures .0) (λ z. omega arith) }
 
 slice-read-retreat : tie.Need-slice-read-retreat
 slice-read-retreat c =
-    let start = c .before .before .before .before .before .before .before .before .before in
-    let claim = c .before .before .before .before .claim in
+    let start = c .before .before .before .before .before .before .before .before .before .before in
+    let claim = c .before .before .before .before .claim-if in
     omega (arith, within (start .args .f) (now (start .args .x)) (now (start .args .m)) (start .args .c) (start .pre .fits) (start .pre .cell), claim .kept)
 
 retreat-requires : tie.Need-retreat-requires
@@ -39,17 +44,18 @@ same-length-2 c = search needs
 
 returns-2 : tie.Need-returns-2
 returns-2 c =
-    let start = c .before .before .before .before .before .before .before .before .before .before in
-    let claim = c .before .before .before .before .before .claim in
-    let below = c .before .before .before .before .before .before .before .below in
-    record { cell = c .retreat .ensures .cell; grown = tried (start .args .f) (now (start .args .x)) (now (start .args .m)) (claim .last .1 .0) (start .args .c) (below .result) (start .args .v) _ _ (start .pre) (below .ensures) (claim .ensures) (λ z. omega arith) }
+    let start = c .before .before .before .before .before .before .before .before .before .before .before in
+    let claim = c .before .before .before .before .before .claim-if in
+    let below = c .before .before .before .before .before .before .before .before .below in
+    record { cell = c .retreat .ensures .cell; grown = tried (start .args .f) (now (start .args .x)) (now (start .args .m)) (claim .last .1 .1 .0) (start .args .c) (below .result) (start .args .v) _ _ (start .pre) (below .ensures) (claim .ensures .0) (λ z. omega arith) }
 
 pub try-below-spec : {M : Type 1} → statement M
 try-below-spec =
     tie.close
     (tie.spec
     below-requires
-    claim-requires
+    slice-read-claim-if
+    claim-if-requires
     same-length
     returns
     slice-read-retreat
