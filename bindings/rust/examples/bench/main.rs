@@ -54,6 +54,16 @@ fn seconds_of_both(one: &mut dyn FnMut(), other: &mut dyn FnMut()) -> (f64, f64)
     (0..40).fold((f64::INFINITY, f64::INFINITY), |(a, b), _| (best(a, batch(times.0, one)), best(b, batch(times.1, other))))
 }
 
+/// The lines of a box's layers and nothing else: rows that are all alike, and rows of one value each, in turns.
+fn draw_lines(part: &mut [u8], n: usize, w: usize) {
+    let row = black_box([1; 90]);
+    for (l, layer) in part.chunks_exact_mut(n * w).enumerate() {
+        for (j, line) in layer.chunks_exact_mut(n).enumerate() {
+            if l % 2 == 0 { line.copy_from_slice(&row[..n]) } else { line.fill(row[j % 90]) }
+        }
+    }
+}
+
 /// Lay and memset into the same buffer over and over, or into each part of a memory in turn, seconds a call.
 fn lay_and_memset(ticket: &[u8], size: usize, memory: &mut [u8]) -> (f64, f64) {
     let memory = RefCell::new(memory);
@@ -70,19 +80,21 @@ fn lay_and_memset(ticket: &[u8], size: usize, memory: &mut [u8]) -> (f64, f64) {
 }
 
 fn lay_table(r: &mut Numbers) {
-    println!("| lay, a dense ticket | bytes | lay, µs | memset, µs | ratio | not in the cache: lay, µs | memset, µs | ratio |");
+    println!("| lay | bytes | lay, µs | memset, µs | ratio | not in the cache: lay, µs | memset, µs | ratio |");
     println!("|---|---|---|---|---|---|---|---|");
     let shapes = [
-        ("box 10 × 10", 3, 10, 10),
-        ("box 90 × 90", 3, 90, 90),
-        ("box 90 × 1", 3, 90, 1),
-        ("box 1 × 90", 3, 1, 90),
-        ("row of 90, h 1", 1, 90, 1),
-        ("channel of 90, h 1", 2, 90, 1),
+        ("box 10 × 10", 3, 10, 10, 10),
+        ("box 90 × 90", 3, 90, 90, 10),
+        ("box 90 × 90, half full", 3, 90, 90, 5),
+        ("box 90 × 1", 3, 90, 1, 10),
+        ("box 1 × 90", 3, 1, 90, 10),
+        ("box 2 × 90", 3, 2, 90, 10),
+        ("row of 90, h 1", 1, 90, 1, 10),
+        ("channel of 90, h 1", 2, 90, 1, 10),
     ];
     let mut large = vec![1; 256 << 20];
-    for (name, kind, n, byte2) in shapes {
-        let ticket = of_shape(r, kind, n, byte2, 10);
+    for (name, kind, n, byte2, tenths) in shapes {
+        let ticket = of_shape(r, kind, n, byte2, tenths);
         let figures = survey(&ticket).expect("a good ticket");
         let size = figures.n * figures.w * figures.layers;
         let (lay, memset) = lay_and_memset(&ticket, size, &mut large[..size]);
@@ -90,6 +102,31 @@ fn lay_table(r: &mut Numbers) {
         let ratios = (lay / memset, cold_lay / cold_memset);
         print!("| {name} | {size} | {:.2} | {:.2} | {:.1} ", lay * 1e6, memset * 1e6, ratios.0);
         println!("| {:.2} | {:.2} | {:.1} |", cold_lay * 1e6, cold_memset * 1e6, ratios.1);
+    }
+}
+
+/// What the writing alone takes at 90 × 90, without a ticket: the lines, and what it costs to touch other memory as well.
+fn line_table() {
+    let (n, w, layers) = (90, 90, 6);
+    let mut buffer = vec![1; n * w * layers];
+    let mut other = vec![1; 4096];
+    println!("\n| writing 90 × 90 × 6 bytes | µs | times memset |\n|---|---|---|");
+    for (name, lines, elsewhere) in [
+        ("memset, and 4096 bytes elsewhere", false, true),
+        ("line by line", true, false),
+        ("line by line, and 4096 bytes elsewhere", true, true),
+    ] {
+        let target = RefCell::new(&mut buffer);
+        let work = &mut || {
+            let mut part = target.borrow_mut();
+            if lines { draw_lines(black_box(&mut part), n, w) } else { black_box(&mut part[..]).fill(black_box(0)) }
+            if elsewhere {
+                black_box(&mut other[..]).fill(black_box(0));
+            }
+        };
+        let memset = &mut || black_box(&mut target.borrow_mut()[..]).fill(black_box(0));
+        let (time, memset) = seconds_of_both(work, memset);
+        println!("| {name} | {:.2} | {:.1} |", time * 1e6, time / memset);
     }
 }
 
@@ -131,6 +168,7 @@ fn main() {
     let r = &mut Numbers::new(601);
     println!("{} cores\n", std::thread::available_parallelism().map_or(1, |c| c.get()));
     lay_table(r);
+    line_table();
     check_table(r);
     call_table(r);
 }
