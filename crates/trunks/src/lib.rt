@@ -128,10 +128,9 @@ fn place_one(p: Packing, s: Span) -> Packing
     requires { ⌜ firstFree (p .lasts) (s .left) < 180 ⌝ }
     ensures { λ r. ⌜ r ≡ placed p s ⌝ }
 {
-    let lasts = p.lasts;
-    let at = first_free(&lasts, s.left);
-    let net = s.net as usize;
     let mut q = p;
+    let at = first_free(&q.lasts, s.left);
+    let net = s.net as usize;
     q.lasts[at] = s.right;
     q.place[net] = at as u8;
     q

@@ -3,9 +3,6 @@ use borrow.Author.Needs.{needs}
 use Rattle.trunks.proofs.place_one.Statement.{statement}
 use Rattle.trunks.proofs.place_one.Tie as tie
 
-slice-aggregate-first-free : tie.Need-slice-aggregate-first-free
-slice-aggregate-first-free c = search needs
-
 first-free-requires : tie.Need-first-free-requires
 first-free-requires c κs = search needs
 
@@ -28,7 +25,6 @@ pub place-one-spec : {M : Type 1} → statement M
 place-one-spec =
     tie.close
     (tie.spec
-    slice-aggregate-first-free
     first-free-requires
     cast-net
     element-write-q
