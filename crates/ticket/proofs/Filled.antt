@@ -8,6 +8,8 @@ use native.Mathlib.Omega.{arith}
 use lib.ListN.{length, getD, set, replicate, length-set, length-replicate, getD-replicate, List·getD-eq-default}
 use lib.Seq.{ext-getD, getD-set-same, getD-set-other}
 use borrow.Author.Count.{below-more}
+use Rattle.counting.specs.Counting.{In}
+use Rattle.grid.specs.Legal.{entry}
 use Rattle.ticket.proofs.Flags.{le-or-lt}
 use Rattle.ticket.specs.Format.{listed}
 
@@ -21,6 +23,15 @@ unfolding listed
 getD-listed f i zero k h = absurd (not-suc-le-zero h)
 getD-listed f i (suc n) zero h = ap f (sym (add-zero i))
 getD-listed f i (suc n) (suc k) h = getD-listed f (suc i) n k (le-of-suc-le-suc h) ∙ ap f (suc-add i k ∙ sym (add-suc i k))
+
+module _ (f : ℕ → ℕ) (n : ℕ) where
+  pub entry-listed : (a : ℕ) → In a n → entry (listed f 1 n) a ≡ f a
+  entry-listed zero i = absurd (omega arith)
+  entry-listed (suc k) i = let one : 1 + k ≡ suc k = omega arith in getD-listed f 1 n k (omega arith) ∙ ap f one
+
+  pub entry-past : (a : ℕ) → n < a → entry (listed f 1 n) a ≡ 0
+  entry-past zero i = absurd (omega arith)
+  entry-past (suc k) i = List·getD-eq-default (listed f 1 n) 0 (rw length-listed (omega arith))
 
 pub zeros-at : (n v : ℕ) → _≡_ {A = ℕ} (getD (replicate n 0) v 0) 0
 zeros-at n v = ⊎-elim (λ le. List·getD-eq-default (replicate n 0) 0 (rw length-replicate le)) (λ lt. getD-replicate n v 0 0 lt) (le-or-lt n v)

@@ -1,7 +1,7 @@
 -- What callers use of a ticket that Read accepts: the ranges of its header, and of its pins that they are nets or empty, end with their side, leave
 -- bare the sides that its kind lacks, and that no net has one pin. Each stage of the reading was passed, and says its part.
 use Prim.Native.Nat.{ℕ, zero, suc, _+_, _^_, _≤_, _<_}
-use mathlib.Core.Bool.{Bool, true, false, and-false}
+use mathlib.Core.Bool.{Bool, true, false}
 use mathlib.Core.List.{List}
 use mathlib.Core.Logic.{_≢_, ⊎-elim, by-cases}
 use mathlib.Core.Path.{_≡_, refl, sym, ap, _∙_, subst}
@@ -10,7 +10,7 @@ use native.Mathlib.Nat.{div-eq-of-lt}
 use native.Mathlib.Numerals.{add-one}
 use native.Mathlib.Omega.{arith}
 use lib.Dec.{leb, eqb}
-use lib.ListN.{length, List·getD-eq-default}
+use lib.ListN.{length}
 use borrow.Author.Tests.{eqb-true, eqb-false, eq-eqb, ne-eqb}
 use Rattle.counting.specs.Counting.{In, bit}
 use Rattle.counting.proofs.Sums.{split, sum-grows}
@@ -20,32 +20,25 @@ use Rattle.grid.specs.View.{longestSide}
 use Rattle.grid.proofs.Pins.{Bare}
 use Rattle.ticket.proofs.Flags.{le-or-lt}
 use Rattle.ticket.proofs.Bits.{standing-one, pin-stands, pin-empty, pin-past, pin-off}
-use Rattle.ticket.proofs.Filled.{length-listed, getD-listed}
+use Rattle.ticket.proofs.Filled.{length-listed, entry-listed, entry-past}
 use Rattle.ticket.proofs.Seconds.{second}
+use Rattle.ticket.proofs.Spans.{side-read, side-before}
 use Rattle.ticket.proofs.Laws.{unless-good, Fields, fields-good, nets-good, least-zero}
 use Rattle.ticket.specs.declared.Cursor.{Cursor}
 use Rattle.ticket.specs.declared.Pins.{Pins}
 use Rattle.ticket.specs.declared.Ticket.{Ticket}
-use Rattle.ticket.specs.Format.{byte, largestByte2, isOn, stands, standing, mapBytes, goodMap, pinNet, listed, sideNets, pinsIn, pinCount, loneNet, netCount}
+use Rattle.ticket.specs.Format.{byte, largestByte2, isOn, stands, standing, mapBytes, pinNet, listed, sideNets, pinsIn, pinCount, loneNet, netCount}
 use Rattle.ticket.specs.Good.{Another, Good}
-use Rattle.ticket.specs.Read.{goOn, headerOf, netsOf, sideOf, after, northEnd, southEnd, westEnd, eastEnd, endsOf, pinsAt, leftOver, noLone, acceptedTicket, orRefused, ticketOf, readOf}
+use Rattle.ticket.specs.Read.{goOn, headerOf, netsOf, after, northEnd, southEnd, westEnd, eastEnd, endsOf, pinsAt, leftOver, noLone, acceptedTicket, orRefused, ticketOf, readOf}
 
 -- ---- a side's list
 
 module _ (f : ℕ → ℕ) (n : ℕ) where
-  pub entry-listed : (a : ℕ) → In a n → entry (listed f 1 n) a ≡ f a
-  entry-listed zero i = absurd (omega arith)
-  entry-listed (suc k) i = let one : 1 + k ≡ suc k = omega arith in getD-listed f 1 n k (omega arith) ∙ ap f one
-
-  entry-past : (a : ℕ) → n < a → entry (listed f 1 n) a ≡ 0
-  entry-past zero i = absurd (omega arith)
-  entry-past (suc k) i = List·getD-eq-default (listed f 1 n) 0 (rw length-listed (omega arith))
-
   -- what holds of 0 and of f at each place holds of each entry
   entry-all : (P : ℕ → Type 0) → P 0 → ((a : ℕ) → In a n → P (f a)) → (a : ℕ) → P (entry (listed f 1 n) a)
   entry-all P z h zero = z
   entry-all P z h (suc k) =
-      ⊎-elim (λ le. subst P (sym (entry-listed (suc k) (omega arith))) (h (suc k) (omega arith))) (λ lt. subst P (sym (entry-past (suc k) lt)) z) (le-or-lt (suc k) n)
+      ⊎-elim (λ le. subst P (sym (entry-listed f n (suc k) (omega arith))) (h (suc k) (omega arith))) (λ lt. subst P (sym (entry-past f n (suc k) lt)) z) (le-or-lt (suc k) n)
 
 -- the nets of a side of p places
 record Listed (p : ℕ) (l : List ℕ) : Type 0 where
@@ -84,16 +77,9 @@ listed-side s on from p small =
       past = λ a h. ⊎-elim (λ le. entry-listed (pinNet s on from p) longestSide a (omega arith) ∙ pin-past s on from p a h) (entry-past (pinNet s on from p) longestSide a) (le-or-lt a longestSide);
     }
 
-side-listed : (s : List ℕ) (on : Bool) (p : ℕ) (c : Cursor) → after s on p c .number ≡ 0 → (c .number ≡ 0) × Listed p (sideNets s on (c .at) p)
-unfolding after sideOf
-side-listed s true p c e =
-    by-cases (ℕ-discrete (c .number) 0)
-    (λ z.
-    let a = unless-good (leb (c .at + mapBytes p) (length s)) 1 (length s) _ (λ q. omega arith) (rw (eq-eqb (c .number) 0 z) at e) in
-    let b = unless-good (goodMap s (c .at) p) 6 (c .at) _ (λ q. omega arith) (a .1) in
-    (z, listed-side s true (c .at) p (pin-small-at s (c .at) p (b .1))))
-    (λ n. absurd (n (rw (ne-eqb (c .number) 0 n) at e)))
-side-listed s false p c e = (rw and-false at e, listed-side s false (c .at) p (λ a i. omega (arith, pin-off s (c .at) p a)))
+side-listed : (s : List ℕ) (on : Bool) (p : ℕ) (c : Cursor) → after s on p c .number ≡ 0 → Listed p (sideNets s on (c .at) p)
+side-listed s true p c e = listed-side s true (c .at) p (pin-small-at s (c .at) p (side-read s p c e .nets))
+side-listed s false p c e = listed-side s false (c .at) p (λ a i. omega (arith, pin-off s (c .at) p a))
 
 side-bare : (s : List ℕ) (on : Bool) (from p : ℕ) → on ≡ false → (a : ℕ) → entry (sideNets s on from p) a ≡ 0
 unfolding sideNets
@@ -147,11 +133,10 @@ module _ (s : List ℕ) (r : Read s) where
   ends : Listed (byte s 1) (found s .north) × Listed (byte s 1) (found s .south) × Listed (byte s 2) (found s .west) × Listed (byte s 2) (found s .east)
   unfolding northEnd southEnd westEnd eastEnd
   ends =
-      let e = side-listed s _ _ (westEnd s) (r .sides) in
-      let w = side-listed s _ _ (southEnd s) (e .0) in
-      let so = side-listed s _ _ (northEnd s) (w .0) in
-      let n = side-listed s _ _ (goOn 4) (so .0) in
-      (n .1, so .1, w .1, e .1)
+      let w = side-before s _ _ (westEnd s) (r .sides) in
+      let so = side-before s _ _ (southEnd s) w in
+      let n = side-before s _ _ (northEnd s) so in
+      (side-listed s _ _ (goOn 4) n, side-listed s _ _ (northEnd s) so, side-listed s _ _ (southEnd s) w, side-listed s _ _ (westEnd s) (r .sides))
 
   abbrev grid : Grid
   grid = upright (byte s 1) (byte s 2) 1

@@ -25,9 +25,9 @@ pub at-going : {r : Cursor} {i : ℕ} → r ≡ goOn i → r .at ≡ i
 at-going e = ap (λ (c : Cursor). c .at) e
 
 -- nothing is refused: the test held, and nothing is refused after it
-pub unless-good : (t : Bool) (k p : ℕ) (c : Cursor) → (k ≡ 0 → ⊥) → unless t k p c .number ≡ 0 → (t ≡ true) × (c .number ≡ 0)
+pub unless-good : (t : Bool) (k p : ℕ) (c : Cursor) → (k ≡ 0 → ⊥) → unless t k p c .number ≡ 0 → (t ≡ true) × (c .number ≡ 0) × (unless t k p c ≡ c)
 unfolding unless
-unless-good true k p c n e = (refl, e)
+unless-good true k p c n e = (refl, e, refl)
 unless-good false k p c n e = absurd (n e)
 
 -- ---- the header
@@ -68,12 +68,12 @@ header-good s e =
 
 -- ---- net bytes
 
-pub nets-good : (s : List ℕ) (k i : ℕ) → netsOf s i (suc k) .number ≡ 0 → (i < length s) × (byte s i ≤ topNet) × (netsOf s (i + 1) k .number ≡ 0)
+pub nets-good : (s : List ℕ) (k i : ℕ) → netsOf s i (suc k) .number ≡ 0 → (i < length s) × (byte s i ≤ topNet) × (netsOf s (i + 1) k .number ≡ 0) × (netsOf s i (suc k) ≡ netsOf s (i + 1) k)
 unfolding netsOf
 nets-good s k i e =
     let a = unless-good (ltb i (length s)) 1 (length s) _ (λ q. omega arith) e in
     let b = unless-good (within (byte s i) topNet) 7 i _ (λ q. omega arith) (a .1) in
-    (leb-true _ _ (a .0), within-is _ _ (b .0) .1, b .1)
+    (leb-true _ _ (a .0), within-is _ _ (b .0) .1, b .1, a .2 ∙ b .2)
 
 module _ (s : List ℕ) (i : ℕ) where
   pub nets-end : (k : ℕ) → k ≤ 0 → netsOf s i k ≡ goOn i

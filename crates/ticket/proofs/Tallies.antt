@@ -1,18 +1,17 @@
--- Counts of the pins of each net, kept in an array: one turn adds one place of a list.
-use Prim.Native.Nat.{ℕ, _+_, _<_}
+-- Counts of the pins of each net, kept in an array: one turn adds one byte of the ticket.
+use Prim.Native.Nat.{ℕ, _+_, _-_, _≤_, _<_}
 use mathlib.Core.List.{List}
 use mathlib.Core.Logic.{by-cases}
 use mathlib.Core.Path.{_≡_, sym, ap, _∙_, subst}
 use native.Mathlib.Decide.{ℕ-discrete}
-use native.Mathlib.Numerals.{add-one}
 use native.Mathlib.Omega.{arith}
 use lib.Dec.{eqb}
 use lib.ListN.{length, getD, set, length-set}
 use lib.Seq.{getD-set-same, getD-set-other}
 use borrow.Author.Tests.{eq-eqb, ne-eqb}
-use Rattle.counting.specs.Counting.{bit, count}
+use Rattle.counting.specs.Counting.{bit}
 use Rattle.counting.proofs.Sums.{sum-none, sum-more}
-use Rattle.grid.specs.Legal.{entry}
+use Rattle.ticket.specs.Format.{byte, times}
 
 -- the array with one more at x
 abbrev pub bumped : List ℕ → ℕ → List ℕ
@@ -24,24 +23,28 @@ bumped-at c x v inside =
     (λ e. rw (eq-eqb x v e) (subst (λ (k : ℕ). getD (bumped c x) k 0 ≡ getD c k 0 + 1) e (getD-set-same c x _ 0 inside)))
     (λ n. rw (ne-eqb x v n) (getD-set-other c x v _ 0 (λ q. n (sym q)) ∙ omega arith))
 
--- the loop over list, before its element i: each number has its count of before, and that of the places passed
-pub record Tally (c₀ list : List ℕ) (i : ℕ) (c : List ℕ) : Type 0 where
+-- the loop over the bytes of s from byte from on, before byte from + k: each number has its count of before, and that of the bytes passed
+pub record Tally (c₀ s : List ℕ) (from k : ℕ) (c : List ℕ) : Type 0 where
   pub size : length c ≡ 256
-  pub counts : (v : ℕ) → v < 256 → getD c v 0 ≡ getD c₀ v 0 + count (λ a. eqb (entry list a) v) i
+  pub counts : (v : ℕ) → v < 256 → getD c v 0 ≡ getD c₀ v 0 + times s v from k
 
-pub tally-more : {c₀ list c : List ℕ} {i : ℕ} → getD list i 0 < 256 → Tally c₀ list i c → Tally c₀ list (i + 1) (bumped c (getD list i 0))
-tally-more {c₀} {list} {c} {i} small w =
+pub tally-none : {c₀ s : List ℕ} {from k : ℕ} → k ≡ 0 → length c₀ ≡ 256 → Tally c₀ s from k c₀
+tally-none {c₀} {s} {from} z e =
+    record { size = e; counts = λ v h. omega (arith, ap (times s v from) z, sum-none (λ j. bit (eqb (byte s (from + (j - 1))) v))) }
+
+pub tally-more : {c₀ s c : List ℕ} {from i : ℕ} → from ≤ i → byte s i < 256 → Tally c₀ s from (i - from) c → Tally c₀ s from (i + 1 - from) (bumped c (byte s i))
+tally-more {c₀} {s} {c} {from} {i} le small w =
     record {
       size = simp length-set (w .size);
       counts = λ v h.
-          let here : entry list (i + 1) ≡ getD list i 0 = rw add-one in
-          omega (arith, w .counts v h, bumped-at c (getD list i 0) v (omega (arith, w .size)), sum-more (λ a. bit (eqb (entry list a) v)) i, ap (λ (x : ℕ). bit (eqb x v)) here);
+          let next : i + 1 - from ≡ i - from + 1 = omega arith in
+          let here : from + (i - from + 1 - 1) ≡ i = omega arith in
+          omega (
+            arith,
+            w .counts v h,
+            bumped-at c (byte s i) v (omega (arith, w .size)),
+            ap (times s v from) next,
+            sum-more (λ j. bit (eqb (byte s (from + (j - 1))) v)) (i - from),
+            ap (λ (x : ℕ). bit (eqb (byte s x) v)) here,
+          );
     }
-
-pub tally-none : {c₀ list : List ℕ} → length c₀ ≡ 256 → Tally c₀ list 0 c₀
-tally-none {c₀} {list} e =
-    record { size = e; counts = λ v h. omega (arith, sum-none (λ a. bit (eqb (entry list a) v))) }
-
-pub tally-end : {c₀ list c : List ℕ} {i : ℕ} → i ≡ 90 → Tally c₀ list i c
-    → (v : ℕ) → v < 256 → getD c v 0 ≡ getD c₀ v 0 + count (λ a. eqb (entry list a) v) 90
-tally-end {c₀} {list} e w v h = w .counts v h ∙ ap (λ (k : ℕ). getD c₀ v 0 + count (λ a. eqb (entry list a) v) k) e

@@ -17,6 +17,7 @@
 --   pinsIn ps            the four lists as the grid's pins
 --   pinCountOn p m s, pinCount p m
 --                        how many pins hold net m, on side s and on all
+--   times s v from k     not part of the definition, but what tally answers: how often v stands in the k bytes from byte from on
 --   netCount p           "the number of nets": how many have a pin
 --   least t top          the smallest of 1 to top that passes the test t, 0 where none does
 --   loneNet p            "a net with one pin (the smallest such net)", 0 where there is none
@@ -79,6 +80,9 @@ pinCountOn p m s = count (λ a. eqb (p s a) m) longestSide
 
 unfoldable pub pinCount : GridPins → ℕ → ℕ
 pinCount p m = pinCountOn p m north + pinCountOn p m south + pinCountOn p m west + pinCountOn p m east
+
+abbrev pub times : List ℕ → ℕ → ℕ → ℕ → ℕ
+times s v from k = count (λ j. eqb (byte s (from + (j - 1))) v) k
 
 abbrev pub netCount : GridPins → ℕ
 netCount p = nets (λ m. leb 1 (pinCount p m))

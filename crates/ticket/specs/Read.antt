@@ -20,12 +20,12 @@
 --   ticketOf s            the whole reading, with the pins
 --   readOf s              Read's answer
 --   ticketPins s          the pins of the ticket
---   Header s, Starts s e, Full s on from p
---                         not part of the definition, but what the functions ask: the header's ranges; no side starts past the end; a side that stands
---                         has a pin at each of its p places, and its bytes are all there
+--   Header s, Spans s on from p end, Sides s e
+--                         not part of the definition, but what the functions ask: the header's ranges; a side of p places that stands (on) has its map and
+--                         its nets from byte from to byte end of the ticket, one that does not has no byte; all four sides, each from the end of the one before
 use Prim.Native.Nat.{ℕ, zero, suc, _+_, _≤_}
 use mathlib.Core.Path.{_≡_}
-use mathlib.Core.Bool.{Bool, true, cond, _&&_}
+use mathlib.Core.Bool.{Bool, true, false, cond, _&&_}
 use mathlib.Core.List.{List}
 use lib.ListN.{length, replicate}
 use lib.Dec.{ltb, leb, eqb}
@@ -145,12 +145,14 @@ pub record Header (s : List ℕ) : Type 0 where
   pub one : In (byte s 1) longestSide
   pub two : In (byte s 2) longestSide
 
-pub record Starts (s : List ℕ) (e : Ends) : Type 0 where
-  pub south : e .north .at ≤ length s
-  pub west : e .south .at ≤ length s
-  pub east : e .west .at ≤ length s
+pub record Spans (s : List ℕ) (on : Bool) (from p end : ℕ) : Type 0 where
+  pub stands : on ≡ true → end ≡ from + mapBytes p + standing s from p
+  pub lacks : on ≡ false → end ≡ from
+  pub start : from ≤ end
+  pub size : end ≤ length s
 
-pub record Full (s : List ℕ) (on : Bool) (from p : ℕ) : Type 0 where
-  pub on-it : on ≡ true
-  pub all : standing s from p ≡ p
-  pub size : from + mapBytes p + p ≤ length s
+pub record Sides (s : List ℕ) (e : Ends) : Type 0 where
+  pub north : Spans s (isOn (byte s 3) 0) 4 (byte s 1) (e .north .at)
+  pub south : Spans s (isOn (byte s 3) 1) (e .north .at) (byte s 1) (e .south .at)
+  pub west : Spans s (isOn (byte s 3) 2) (e .south .at) (byte s 2) (e .west .at)
+  pub east : Spans s (isOn (byte s 3) 3) (e .west .at) (byte s 2) (e .east .at)

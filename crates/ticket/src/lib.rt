@@ -3,16 +3,16 @@ use grid::Column;
 use grid::LONGEST_SIDE;
 use grid::is_within;
 ghost use mathlib.Core.Path.{_≡_};
-ghost use Prim.Native.Nat.{ℕ, _+_, _*_, _/_, _^_, _≤_, _<_};
+ghost use Prim.Native.Nat.{ℕ, _+_, _-_, _*_, _/_, _^_, _≤_, _<_};
 ghost use lib.ListN.{length, getD};
 ghost use lib.Dec.{leb, eqb};
 ghost use mathlib.Core.Bool.{true, false, cond, _&&_};
 ghost use Rattle.grid.specs.Grid.{Side, north, south, west, east};
 ghost use Rattle.grid.specs.Legal.{entry, topNet};
 ghost use Rattle.grid.specs.View.{within};
-ghost use Rattle.counting.specs.Counting.{count};
-ghost use Rattle.ticket.specs.Format.{byte, largestByte2, largestSideMap, isOn, standing, mapBytes, goodMap, mapCount, sideNets, netCount, pinCount, pinsIn, least};
-ghost use Rattle.ticket.specs.Read.{refusal, goOn, unless, fieldsOf, headerOf, netsOf, sideOf, after, endsOf, pinsAt, leftOver, noLone, Header, Starts, Full, refusedTicket, acceptedTicket, judged, ticketOf, readOf};
+ghost use Rattle.counting.specs.Counting.{In, count};
+ghost use Rattle.ticket.specs.Format.{byte, largestByte2, largestSideMap, isOn, standing, mapBytes, goodMap, mapCount, sideNets, netCount, pinCount, pinsIn, times, least};
+ghost use Rattle.ticket.specs.Read.{refusal, goOn, unless, fieldsOf, headerOf, netsOf, sideOf, after, endsOf, pinsAt, leftOver, noLone, Header, Spans, Sides, refusedTicket, acceptedTicket, judged, ticketOf, readOf};
 
 pub const MOST_TRUNK_LAYERS: usize = 8;
 
@@ -268,8 +268,7 @@ fn after(ticket: &[u8], stands: bool, places: usize, c: Cursor) -> Cursor
 // All sides, after a good header.
 fn sides(ticket: &[u8]) -> Ends
     requires { ⌜ Header (now ticket) ⌝ }
-    ensures meets { λ r. ⌜ r ≡ endsOf (now (ticket .entry)) ⌝ }
-    ensures inside { λ r. ⌜ Starts (now (ticket .entry)) r ⌝ }
+    ensures { λ r. ⌜ r ≡ endsOf (now (ticket .entry)) ⌝ }
 {
     let n = ticket[1] as usize;
     let w = ticket[2] as usize;
@@ -287,14 +286,11 @@ fn sides(ticket: &[u8]) -> Ends
 }
 
 // The nets of a side whose map starts at byte `at`, place by place.
-fn side_nets(ticket: &[u8], stands: bool, at: usize, places: usize) -> [u8; 90]
+fn side_nets(ticket: &[u8], at: usize, places: usize) -> [u8; 90]
     requires { ⌜ (places ≤ 90) × (at ≤ length (now ticket)) ⌝ }
-    ensures { λ r. ⌜ r ≡ sideNets (now (ticket .entry)) stands at places ⌝ }
+    ensures { λ r. ⌜ r ≡ sideNets (now (ticket .entry)) true at places ⌝ }
 {
     let mut list = [0u8; 90];
-    if !stands {
-        return list;
-    }
     let mut next = at + (places + 7) / 8;
     let mut i: usize = 0;
     while i < places {
@@ -307,21 +303,9 @@ fn side_nets(ticket: &[u8], stands: bool, at: usize, places: usize) -> [u8; 90]
     list
 }
 
-// Whether a side has a pin at each place, and its bytes are all there.
-fn is_full(ticket: &[u8], stands: bool, at: usize, places: usize) -> bool
-    requires { ⌜ (1 ≤ places) × (places ≤ 90) × (at ≤ length (now ticket)) ⌝ }
-    ensures { λ r. ⌜ (r ≡ true → Full (now (ticket .entry)) stands at places) ⌝ }
-{
-    if ticket.len() - at < (places + 7) / 8 + places {
-        return false;
-    }
-    let count = map_count(ticket, at, places);
-    both(stands, count == places)
-}
-
-// The nets of such a side: they lie in the ticket as they are listed.
+// The nets of a side with a pin at each place: they lie in the ticket as they are listed.
 fn full_side(ticket: &[u8], at: usize, places: usize) -> [u8; 90]
-    requires { ⌜ (places ≤ 90) × Full (now ticket) true at places ⌝ }
+    requires { ⌜ (places ≤ 90) × (standing (now ticket) at places ≡ places) × (at + mapBytes places + places ≤ length (now ticket)) ⌝ }
     ensures { λ r. ⌜ r ≡ sideNets (now (ticket .entry)) true at places ⌝ }
 {
     let mut list = [0u8; 90];
@@ -334,29 +318,33 @@ fn full_side(ticket: &[u8], at: usize, places: usize) -> [u8; 90]
     list
 }
 
-fn side_list(ticket: &[u8], stands: bool, at: usize, places: usize) -> [u8; 90]
-    requires { ⌜ (1 ≤ places) × (places ≤ 90) × (at ≤ length (now ticket)) ⌝ }
+// The nets of a side from byte `at` to byte `end`; its bytes are as many as its map's and its places where it has a pin at each place.
+fn side_list(ticket: &[u8], stands: bool, at: usize, end: usize, places: usize) -> [u8; 90]
+    requires { ⌜ (places ≤ 90) × Spans (now ticket) stands at places end ⌝ }
     ensures { λ r. ⌜ r ≡ sideNets (now (ticket .entry)) stands at places ⌝ }
 {
-    if is_full(ticket, stands, at, places) {
+    if !stands {
+        return [0u8; 90];
+    }
+    if end - at == (places + 7) / 8 + places {
         return full_side(ticket, at, places);
     }
-    side_nets(ticket, stands, at, places)
+    side_nets(ticket, at, places)
 }
 
 // The nets of all sides, once their ends are known.
 fn pins_at(ticket: &[u8], ends: Ends) -> Pins
     requires { ⌜ Header (now ticket) ⌝ }
-    requires { ⌜ Starts (now ticket) ends ⌝ }
+    requires { ⌜ Sides (now ticket) ends ⌝ }
     ensures { λ r. ⌜ r ≡ pinsAt (now (ticket .entry)) ends ⌝ }
 {
     let n = ticket[1] as usize;
     let w = ticket[2] as usize;
     let map = ticket[3];
-    let north = side_list(ticket, bit_of(map, 0), 4, n);
-    let south = side_list(ticket, bit_of(map, 1), ends.north.at, n);
-    let west = side_list(ticket, bit_of(map, 2), ends.south.at, w);
-    let east = side_list(ticket, bit_of(map, 3), ends.west.at, w);
+    let north = side_list(ticket, bit_of(map, 0), 4, ends.north.at, n);
+    let south = side_list(ticket, bit_of(map, 1), ends.north.at, ends.south.at, n);
+    let west = side_list(ticket, bit_of(map, 2), ends.south.at, ends.west.at, w);
+    let east = side_list(ticket, bit_of(map, 3), ends.west.at, ends.east.at, w);
     Pins {
         north,
         south,
@@ -365,33 +353,34 @@ fn pins_at(ticket: &[u8], ends: Ends) -> Pins
     }
 }
 
-// The counts of each number, with those of a list added.
-fn tally(counts: [u16; 256], list: [u8; 90]) -> [u16; 256]
+// The counts of each number, with those of the net bytes of a side added. A side that does not stand ends where it starts, before any net byte.
+fn tally(counts: [u16; 256], ticket: &[u8], at: usize, end: usize, places: usize) -> [u16; 256]
     requires { ⌜ ((v : ℕ) → v < 256 → getD counts v 0 ≤ 270) ⌝ }
-    ensures { λ r. ⌜ ((v : ℕ) → v < 256 → getD r v 0 ≡ getD counts v 0 + count (λ a. eqb (entry list a) v) 90) ⌝ }
+    requires { ⌜ (places ≤ 90) × (at ≤ length (now ticket)) × (end ≤ length (now ticket)) × (end ≤ at + mapBytes places + 90) ⌝ }
+    ensures { λ r. ⌜ ((v : ℕ) → v < 256 → getD r v 0 ≡ getD counts v 0 + times (now (ticket .entry)) v (at + mapBytes places) (end - (at + mapBytes places))) ⌝ }
 {
     let mut c = counts;
-    let mut i: usize = 0;
-    while i < LONGEST_SIDE {
-        let v = list[i] as usize;
+    let mut i: usize = at + (places + 7) / 8;
+    while i < end {
+        let v = ticket[i] as usize;
         c[v] = c[v] + 1;
         i += 1;
     }
     c
 }
 
-// How many pins each net has.
-fn tally_all(p: Pins) -> [u16; 256]
-    ensures { λ r. ⌜ ((v : ℕ) → v < 256 → getD r v 0 ≡ pinCount (pinsIn p) v) ⌝ }
+// How many pins each net has, counted where the ticket lists them; what stands at 0 is not used.
+fn tally_all(ticket: &[u8], ends: Ends) -> [u16; 256]
+    requires { ⌜ Header (now ticket) ⌝ }
+    requires { ⌜ Sides (now ticket) ends ⌝ }
+    ensures { λ r. ⌜ ((v : ℕ) → In v topNet → getD r v 0 ≡ pinCount (pinsIn (pinsAt (now (ticket .entry)) ends)) v) ⌝ }
 {
-    let north = p.north;
-    let south = p.south;
-    let west = p.west;
-    let east = p.east;
-    let c = tally([0u16; 256], north);
-    let c = tally(c, south);
-    let c = tally(c, west);
-    tally(c, east)
+    let n = ticket[1] as usize;
+    let w = ticket[2] as usize;
+    let c = tally([0u16; 256], ticket, 4, ends.north.at, n);
+    let c = tally(c, ticket, ends.north.at, ends.south.at, n);
+    let c = tally(c, ticket, ends.south.at, ends.west.at, w);
+    tally(c, ticket, ends.west.at, ends.east.at, w)
 }
 
 fn either(a: bool, b: bool) -> bool
@@ -500,16 +489,17 @@ fn accepted(ticket: &[u8], nets: u8, pins: Pins) -> Ticket
 }
 
 // The last test, once all bytes are read.
-fn judged(ticket: &[u8], pins: Pins) -> Ticket
+fn judged(ticket: &[u8], ends: Ends) -> Ticket
     requires { ⌜ Header (now ticket) ⌝ }
-    ensures { λ r. ⌜ r ≡ judged (now (ticket .entry)) pins ⌝ }
+    requires { ⌜ Sides (now ticket) ends ⌝ }
+    ensures { λ r. ⌜ r ≡ judged (now (ticket .entry)) (pinsAt (now (ticket .entry)) ends) ⌝ }
 {
-    let counts = tally_all(pins);
+    let counts = tally_all(ticket, ends);
     let last = no_lone(lone_net(counts));
     if last.number != 0 {
         return refused(last);
     }
-    accepted(ticket, distinct(counts), pins)
+    accepted(ticket, distinct(counts), pins_at(ticket, ends))
 }
 
 // The whole reading, with the pins: for the crates that go on from a good reading.
@@ -529,7 +519,7 @@ pub fn parse(ticket: &[u8]) -> Ticket
     if whole.number != 0 {
         return refused(whole);
     }
-    judged(ticket, pins_at(ticket, ends))
+    judged(ticket, ends)
 }
 
 // Public call Read.

@@ -1,7 +1,7 @@
 -- `ticket::full_side` meets its contract: each place stands, so that place i has the i-th net byte.
 use Prim.Native.Nat.{ℕ, _+_, _-_, _≤_}
 use mathlib.Core.Bool.{true}
-use mathlib.Core.Path.{_≡_, sym, ap, _∙_}
+use mathlib.Core.Path.{sym, ap, _∙_}
 use native.Mathlib.Omega.{arith}
 use denote.Ref.{now}
 use borrow.Author.Needs.{needs}
@@ -49,9 +49,9 @@ loop-again c =
     let full = c3 .pre .1 in
     let l = c .before .before .loop in
     let lt = c .before .loop-test .taken in
-    let k = full-standing s (a .at) (a .places) (full .all) (l .i) (l .inv .0) in
+    let k = full-standing s (a .at) (a .places) (full) (l .i) (l .inv .0) in
     let here = ap (λ (x : ℕ). byte s (a .at + mapBytes (a .places) + x)) (sym k) in
-    (omega arith, filled-set _ 90 (l .i) _ (l .list) (omega arith) (here ∙ sym (pin-stands s (a .at) (a .places) (l .i) lt (full-stands s (a .at) (a .places) (full .all) (l .i) lt))) (l .inv .1))
+    (omega arith, filled-set _ 90 (l .i) _ (l .list) (omega arith) (here ∙ sym (pin-stands s (a .at) (a .places) (l .i) lt (full-stands s (a .at) (a .places) (full) (l .i) lt))) (l .inv .1))
 
 returns : tie.Need-returns Inv-loop μ-loop
 unfolding sideNets

@@ -4,6 +4,7 @@ use mathlib.Core.Path.{sym, ap, _∙_}
 use denote.Ref.{now}
 use borrow.Author.Needs.{needs}
 use Rattle.ticket.proofs.Laws.{header-good, turned-down, going-on}
+use Rattle.ticket.proofs.Spans.{sides-span}
 use Rattle.ticket.specs.Read.{leftOver, pinsAt, judged, ticketOf}
 use Rattle.ticket.specs.declared.Ends.{Ends}
 use Rattle.ticket.specs.declared.Cursor.{Cursor}
@@ -34,7 +35,7 @@ refused-requires-2 c κs = search needs
 
 returns-2 : tie.Need-returns-2
 unfolding ticketOf
-returns-2 c = turned-down _ (ap last (c .before .before .before .before .sides .ensures .0)) (c .before .if2 .taken) (c .refused2 .ensures) ∙ sym (going-on _ (c .before .before .before .before .before .before .before .header .ensures) (c .before .before .before .before .before .if1 .left))
+returns-2 c = turned-down _ (ap last (c .before .before .before .before .sides .ensures)) (c .before .if2 .taken) (c .refused2 .ensures) ∙ sym (going-on _ (c .before .before .before .before .before .before .before .header .ensures) (c .before .before .before .before .before .if1 .left))
 
 left-over-requires : tie.Need-left-over-requires
 left-over-requires c κs = search needs
@@ -46,23 +47,27 @@ returns-3 : tie.Need-returns-3
 unfolding ticketOf
 returns-3 c =
     let s = now (c .before .before .before .before .before .before .before .before .before .before .before .before .args .ticket) in
-    let end = ap last (c .before .before .before .before .before .before .before .sides .ensures .0) in
+    let end = ap last (c .before .before .before .before .before .before .before .sides .ensures) in
     turned-down _ (c .before .before .before .left-over .ensures ∙ ap (λ (x : Cursor). leftOver s (x .at)) end) (c .before .if3 .taken) (c .refused3 .ensures)
     ∙ sym (going-on _ (c .before .before .before .before .before .before .before .before .before .before .header .ensures) (c .before .before .before .before .before .before .before .before .if1 .left) ∙ going-on _ end (c .before .before .before .before .if2 .left))
 
-pins-at-requires : tie.Need-pins-at-requires
-pins-at-requires c κs = (header-good (now (c .before .before .before .before .before .before .before .before .before .before .before .args .ticket)) (ap number (sym (c .before .before .before .before .before .before .before .before .before .header .ensures)) ∙ c .before .before .before .before .before .before .before .if1 .left), c .before .before .before .before .before .before .sides .ensures .1)
-
 judged-requires : tie.Need-judged-requires
-judged-requires c κs = header-good (now (c .before .before .before .before .before .before .before .before .before .before .before .before .args .ticket)) (ap number (sym (c .before .before .before .before .before .before .before .before .before .before .header .ensures)) ∙ c .before .before .before .before .before .before .before .before .if1 .left)
+judged-requires c κs =
+    let c6 = c .before .before .before .before .before .before in
+    let c9 = c6 .before .before .before in
+    let s = now (c9 .before .before .args .ticket) in
+    let h = header-good s (ap number (sym (c9 .header .ensures)) ∙ c6 .before .if1 .left) in
+    (h, sides-span s h (c6 .sides .ensures) (c .before .before .before .if2 .left))
 
 returns-4 : tie.Need-returns-4
 unfolding ticketOf
 returns-4 c =
-    let s = now (c .before .before .before .before .before .before .before .before .before .before .before .before .before .args .ticket) in
-    let end = ap last (c .before .before .before .before .before .before .before .before .sides .ensures .0) in
-    c .judged .ensures ∙ ap (judged s) (c .before .pins-at .ensures ∙ ap (pinsAt s) (c .before .before .before .before .before .before .before .before .sides .ensures .0))
-    ∙ sym (going-on _ (c .before .before .before .before .before .before .before .before .before .before .before .header .ensures) (c .before .before .before .before .before .before .before .before .before .if1 .left) ∙ going-on _ end (c .before .before .before .before .before .if2 .left) ∙ going-on _ (c .before .before .before .before .left-over .ensures ∙ ap (λ (x : Cursor). leftOver s (x .at)) end) (c .before .before .if3 .left))
+    let c7 = c .before .before .before .before .before .before .before in
+    let c10 = c7 .before .before .before in
+    let s = now (c10 .before .before .args .ticket) in
+    let end = ap last (c7 .sides .ensures) in
+    c .judged .ensures ∙ ap (λ (e : Ends). judged s (pinsAt s e)) (c7 .sides .ensures)
+    ∙ sym (going-on _ (c10 .header .ensures) (c7 .before .if1 .left) ∙ going-on _ end (c .before .before .before .before .if2 .left) ∙ going-on _ (c .before .before .before .left-over .ensures ∙ ap (λ (x : Cursor). leftOver s (x .at)) end) (c .before .if3 .left))
 
 pub parse-spec : {M : Type 1} → statement M
 parse-spec =
@@ -77,6 +82,5 @@ parse-spec =
     left-over-requires
     refused-requires-3
     returns-3
-    pins-at-requires
     judged-requires
     returns-4)

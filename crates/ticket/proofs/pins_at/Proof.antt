@@ -6,6 +6,7 @@ use mathlib.Core.Path.{ap, _∙_}
 use denote.Ref.{now}
 use borrow.Author.Needs.{needs}
 use Rattle.ticket.specs.Format.{byte, sideNets}
+use Rattle.ticket.proofs.Spans.{spans-as}
 use Rattle.ticket.proofs.pins_at.Statement.{statement}
 use Rattle.ticket.proofs.pins_at.Tie as tie
 
@@ -28,25 +29,33 @@ bit-of-requires : tie.Need-bit-of-requires
 bit-of-requires c κs = search needs
 
 side-list-requires : tie.Need-side-list-requires
-side-list-requires c κs = search needs
+side-list-requires c κs =
+    let h = c .before .before .before .before .before .pre in
+    (h .0 .one .1, spans-as (c .bit-of .ensures) (h .1 .north))
 
 bit-of-requires-2 : tie.Need-bit-of-requires-2
 bit-of-requires-2 c κs = search needs
 
 side-list-requires-2 : tie.Need-side-list-requires-2
-side-list-requires-2 c κs = search needs
+side-list-requires-2 c κs =
+    let h = c .before .before .before .before .before .before .before .pre in
+    (h .0 .one .1, spans-as (c .bit-of2 .ensures) (h .1 .south))
 
 bit-of-requires-3 : tie.Need-bit-of-requires-3
 bit-of-requires-3 c κs = search needs
 
 side-list-requires-3 : tie.Need-side-list-requires-3
-side-list-requires-3 c κs = search needs
+side-list-requires-3 c κs =
+    let h = c .before .before .before .before .before .before .before .before .before .pre in
+    (h .0 .two .1, spans-as (c .bit-of3 .ensures) (h .1 .west))
 
 bit-of-requires-4 : tie.Need-bit-of-requires-4
 bit-of-requires-4 c κs = search needs
 
 side-list-requires-4 : tie.Need-side-list-requires-4
-side-list-requires-4 c κs = search needs
+side-list-requires-4 c κs =
+    let h = c .before .before .before .before .before .before .before .before .before .before .before .pre in
+    (h .0 .two .1, spans-as (c .bit-of4 .ensures) (h .1 .east))
 
 returns : tie.Need-returns
 returns c =

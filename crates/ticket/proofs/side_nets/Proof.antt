@@ -1,32 +1,24 @@
 -- `ticket::side_nets` meets its contract: the array is filled with the nets of the places passed, and the next net byte lies past their standing ones.
 use Prim.Native.Nat.{ℕ, _+_, _-_, _%_, _≤_}
-use mathlib.Core.Bool.{Bool, true}
+use mathlib.Core.Bool.{true}
 use mathlib.Core.Logic.{⊎-elim}
 use mathlib.Core.Path.{_≡_, sym, ap, _∙_}
 use native.Mathlib.Omega.{arith}
 use denote.Ref.{now}
-use borrow.Author.Tests.{not-true, not-false}
 use borrow.Author.Needs.{needs}
 use Rattle.counting.specs.Counting.{bit}
 use Rattle.counting.proofs.Sums.{sum-none}
 use Rattle.ticket.specs.Format.{isOn, stands, byte, standing, mapBytes, pinNet, sideNets}
-use Rattle.ticket.proofs.Bits.{standing-one, standing-none, standing-le, pin-stands, pin-empty, pin-past, pin-off, at-place}
+use Rattle.ticket.proofs.Bits.{standing-one, standing-none, standing-le, pin-stands, pin-empty, pin-past, at-place}
 use Rattle.ticket.proofs.Filled.{Filled, filled-none, filled-set, filled-skip, filled-end}
 use Rattle.ticket.proofs.side_nets.Statement.{statement}
 use Rattle.ticket.proofs.side_nets.Tie as tie
 
 abbrev Inv-loop : tie.InvT-loop
-Inv-loop ticket stands at places list₀ next₀ i₀ list next i = (i ≤ places) × (next ≡ at + mapBytes places + standing ticket at i) × Filled (pinNet ticket true at places) 90 i list
+Inv-loop ticket at places list₀ next₀ i₀ list next i = (i ≤ places) × (next ≡ at + mapBytes places + standing ticket at i) × Filled (pinNet ticket true at places) 90 i list
 
 abbrev μ-loop : tie.MeasureT-loop
-μ-loop ticket stands at places list₀ next₀ i₀ list next i = places - i
-
-returns : tie.Need-returns Inv-loop μ-loop
-unfolding sideNets
-returns c =
-    let a = c .before .before .args in
-    let off = not-true (a .stands) (c .if1 .taken) in
-    filled-end (pinNet (now (a .ticket)) (a .stands) (a .at) (a .places)) 90 0 _ (λ k h. ap (λ (b : Bool). pinNet (now (a .ticket)) b (a .at) (a .places) k) off ∙ pin-off _ _ _ _) (filled-none _ 90)
+μ-loop ticket at places list₀ next₀ i₀ list next i = places - i
 
 add-next : tie.Need-add-next Inv-loop μ-loop
 add-next c = search needs
@@ -35,7 +27,7 @@ add-next-2 : tie.Need-add-next-2 Inv-loop μ-loop
 add-next-2 c = search needs
 
 loop-holds : tie.Need-loop-holds Inv-loop μ-loop
-loop-holds c = (omega arith, omega (arith, sum-none (λ k. bit (stands (now (c .before .before .args .ticket)) (c .before .before .args .at) k))), filled-none _ 90)
+loop-holds c = (omega arith, omega (arith, sum-none (λ k. bit (stands (now (c .before .args .ticket)) (c .before .args .at) k))), filled-none _ 90)
 
 add-byte-at : tie.Need-add-byte-at Inv-loop μ-loop
 add-byte-at c = search needs
@@ -53,7 +45,7 @@ array-write-list : tie.Need-array-write-list Inv-loop μ-loop
 array-write-list c = search needs
 
 add-next-3 : tie.Need-add-next-3 Inv-loop μ-loop
-add-next-3 c = omega (arith, standing-le (now (c .before .before .before .before .before .before .before .before .args .ticket)) (c .before .before .before .before .before .before .before .before .args .at) (c .before .before .before .before .before .loop .i))
+add-next-3 c = omega (arith, standing-le (now (c .before .before .before .before .before .before .before .args .ticket)) (c .before .before .before .before .before .before .before .args .at) (c .before .before .before .before .before .loop .i))
 
 add-i : tie.Need-add-i Inv-loop μ-loop
 add-i c = search needs
@@ -63,7 +55,7 @@ loop-less c = search needs
 
 loop-again : tie.Need-loop-again Inv-loop μ-loop
 loop-again c =
-    let a = c .before .before .before .before .before .before .before .args in
+    let a = c .before .before .before .before .before .before .args in
     let s = now (a .ticket) in
     let l = c .before .before .before .before .loop in
     let lt = c .before .before .before .loop-test .taken in
@@ -81,15 +73,14 @@ loop-again c =
       omega (arith, standing-none s (a .at) (l .i) off, w .2),
       rw (w .1) (filled-skip _ 90 (l .i) (l .list) (pin-empty s true (a .at) (a .places) (l .i + 1) off) (l .inv .2)),
     ))
-    (c .if2 .came)
+    (c .if1 .came)
 
-returns-2 : tie.Need-returns-2 Inv-loop μ-loop
+returns : tie.Need-returns Inv-loop μ-loop
 unfolding sideNets
-returns-2 c =
-    let a = c .before .before .before .before .args in
+returns c =
+    let a = c .before .before .before .args in
     let l = c .before .loop in
-    let on = not-false (a .stands) (c .before .before .if1 .left) in
-    filled-end _ 90 (l .i) (l .list) (λ k h. pin-past (now (a .ticket)) true (a .at) (a .places) k (omega arith)) (l .inv .2) ∙ ap (λ (b : Bool). sideNets (now (a .ticket)) b (a .at) (a .places)) (sym on)
+    filled-end _ 90 (l .i) (l .list) (λ k h. pin-past (now (a .ticket)) true (a .at) (a .places) k (omega arith)) (l .inv .2)
 
 pub side-nets-spec : {M : Type 1} → statement M
 side-nets-spec =
@@ -97,7 +88,6 @@ side-nets-spec =
     (tie.spec
     Inv-loop
     μ-loop
-    returns
     add-next
     add-next-2
     loop-holds
@@ -110,4 +100,4 @@ side-nets-spec =
     add-i
     loop-less
     loop-again
-    returns-2)
+    returns)

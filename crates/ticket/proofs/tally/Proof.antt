@@ -1,67 +1,83 @@
--- `ticket::tally` meets its contract: the counts are those of the places passed.
-use Prim.Native.Nat.{_-_, _≤_}
+-- `ticket::tally` meets its contract: the counts are those of the bytes passed.
+use Prim.Native.Nat.{ℕ, _+_, _-_, _≤_}
+use mathlib.Core.Path.{_≡_, ap, _∙_}
 use native.Mathlib.Omega.{arith}
+use denote.Ref.{now}
 use lib.Dec.{eqb}
 use lib.ListN.{getD}
 use mir.Syntax.{w8}
 use mir.Val.{Fits}
 use borrow.Author.Needs.{needs}
 use Rattle.counting.proofs.Counts.{count-le}
-use Rattle.grid.specs.Legal.{entry}
-use Rattle.ticket.proofs.Tallies.{Tally, tally-none, tally-more, tally-end}
+use Rattle.ticket.proofs.Tallies.{Tally, tally-none, tally-more}
+use Rattle.ticket.specs.Format.{byte, mapBytes, times}
 use Rattle.ticket.proofs.tally.Statement.{statement}
 use Rattle.ticket.proofs.tally.Tie as tie
 
 abbrev Inv-loop : tie.InvT-loop
-Inv-loop list c₀ i₀ c i = (i ≤ 90) × Tally c₀ list i c
+Inv-loop ticket at end places c₀ from c i = (from ≤ i) × (i - from ≤ end - from) × Tally c₀ ticket from (i - from) c
 
 abbrev μ-loop : tie.MeasureT-loop
-μ-loop list c₀ i₀ c i = 90 - i
+μ-loop ticket at end places c₀ from c i = end - i
 
--- a byte of the list
-elem : (c : tie.In-loop Inv-loop μ-loop) → Fits w8 (getD (c .before .before .args .t2) (c .before .loop .i) 0)
-elem c = search needs
+-- a byte of the ticket
+elem : (c : tie.After-shared-slice-known Inv-loop μ-loop) → Fits w8 (byte (now (c .before .before .before .args .ticket)) (c .before .before .loop .i))
+elem c = c .shared-slice-known .given (c .before .before .loop .i)
+
+add-i : tie.Need-add-i Inv-loop μ-loop
+add-i c = search needs
+
+add-i-2 : tie.Need-add-i-2 Inv-loop μ-loop
+add-i-2 c = search needs
 
 loop-holds : tie.Need-loop-holds Inv-loop μ-loop
-loop-holds c = (omega arith, tally-none (search needs))
+loop-holds c = (omega arith, omega arith, tally-none (omega arith) (search needs))
 
-array-read-v : tie.Need-array-read-v Inv-loop μ-loop
-array-read-v c = search needs
+shared-slice-read-v : tie.Need-shared-slice-read-v Inv-loop μ-loop
+shared-slice-read-v c = search needs
 
 cast-v : tie.Need-cast-v Inv-loop μ-loop
-cast-v c = search needs
+cast-v c = omega (arith, elem c)
 
 mul-c : tie.Need-mul-c Inv-loop μ-loop
 mul-c c = omega (arith, elem c)
 
 array-read-c : tie.Need-array-read-c Inv-loop μ-loop
-array-read-c c = omega (arith, elem c, c .before .loop .inv .1 .size)
+array-read-c c = omega (arith, elem c, c .before .before .loop .inv .2 .size)
 
 add-c : tie.Need-add-c Inv-loop μ-loop
 add-c c =
-    let l = c .before .loop in
-    let list = c .before .before .args .t2 in
-    let v = getD list (l .i) 0 in
+    let c3 = c .before .before .before in
+    let a = c3 .args in
+    let l = c .before .before .loop in
+    let s = now (a .ticket) in
+    let v = byte s (l .i) in
+    let from = a .at + mapBytes (a .places) in
     let h = elem c in
-    omega (arith, l .inv .1 .counts v (h .fits), c .before .before .pre v (h .fits), count-le (λ a. eqb (entry list a) v) (l .i))
+    omega (arith, l .inv .2 .counts v (h .fits), c3 .pre .0 v (h .fits), count-le (λ j. eqb (byte s (from + (j - 1))) v) (l .i - from))
 
 mul-c-2 : tie.Need-mul-c-2 Inv-loop μ-loop
 mul-c-2 c = omega (arith, elem c)
 
 array-write-c : tie.Need-array-write-c Inv-loop μ-loop
-array-write-c c = omega (arith, elem c, c .before .loop .inv .1 .size)
+array-write-c c = omega (arith, elem c, c .before .before .loop .inv .2 .size)
 
-add-i : tie.Need-add-i Inv-loop μ-loop
-add-i c = search needs
+add-i-3 : tie.Need-add-i-3 Inv-loop μ-loop
+add-i-3 c = search needs
 
 loop-less : tie.Need-loop-less Inv-loop μ-loop
 loop-less c = search needs
 
 loop-again : tie.Need-loop-again Inv-loop μ-loop
-loop-again c = (omega arith, tally-more (elem c .fits) (c .before .loop .inv .1))
+loop-again c = (omega arith, omega arith, tally-more (c .before .before .loop .inv .0) (elem c .fits) (c .before .before .loop .inv .2))
 
 returns : tie.Need-returns Inv-loop μ-loop
-returns c = tally-end (omega arith) (c .before .loop .inv .1)
+returns c =
+    let a = c .before .before .args in
+    let l = c .before .loop in
+    let from = a .at + mapBytes (a .places) in
+    let all : l .i - from ≡ a .end - from = omega arith in
+    λ v h. l .inv .2 .counts v h ∙ ap (λ (k : ℕ). getD (a .counts) v 0 + times (now (a .ticket)) v from k) all
 
 pub tally-spec : {M : Type 1} → statement M
 tally-spec =
@@ -69,15 +85,17 @@ tally-spec =
     (tie.spec
     Inv-loop
     μ-loop
+    add-i
+    add-i-2
     loop-holds
-    array-read-v
+    shared-slice-read-v
     cast-v
     mul-c
     array-read-c
     add-c
     mul-c-2
     array-write-c
-    add-i
+    add-i-3
     loop-less
     loop-again
     returns)
