@@ -1,4 +1,5 @@
-pub mod Extremes
+pub mod Flags
 pub mod Sweep
+pub mod Across
 pub mod Bounds
 pub mod Lines

@@ -1,152 +1,102 @@
--- Nets that pass a column, from column to column: those that begin there come in, those that end there go.
-use Prim.Native.Nat.{ℕ, _+_, _-_, _≤_, _<_, max}
+-- From column to column: the nets that begin at a column come in, those that end there go. Each is one of the column's two pins.
+use Prim.Native.Nat.{ℕ, _+_, min}
 use mathlib.Core.Path.{_≡_, refl, sym, ap, ap₂, _∙_}
-use mathlib.Core.Logic.{by-cases}
-use mathlib.Core.Bool.{false, _&&_, and-true, and-false}
-use mathlib.Core.List.{List}
-use native.Mathlib.Decide.{ℕ-discrete, decLe}
-use native.Mathlib.Numerals.{add-one}
+use mathlib.Core.Bool.{Bool, true, false, not, _&&_, _||_, or-true, or-false, and-true, and-false, and-comm, and-self}
+use native.Mathlib.Decide.{decLe}
 use native.Mathlib.Omega.{arith}
-use lib.Dec.{eqb, leb, ltb}
-use lib.ListN.{length, set, length-set}
-use borrow.Author.Tests.{eq-eqb, ne-eqb, le-leb, lt-leb, lt-ltb, le-ltb}
-use Rattle.counting.specs.Counting.{bit, count, most}
-use Rattle.counting.proofs.Sums.{bit-zero, sum-same, sum-add, sum-none, sum-more}
-use Rattle.counting.proofs.Counts.{count-le}
+use lib.Dec.{eqb, leb}
+use borrow.Author.Tests.{eq-eqb, ne-eqb, le-leb, lt-leb}
+use Rattle.counting.specs.Counting.{In, bit}
+use Rattle.counting.proofs.Sums.{sum-same, sum-add, sum-zero, sum-change}
 use Rattle.grid.specs.Legal.{topNet, nets}
-use Rattle.ticket.proofs.Tallies.{bumped-at}
-use Rattle.survey.specs.declared.Spans.{Spans}
-use Rattle.survey.specs.Spans.{passed, stays, turnsAt, at, Turns}
+use Rattle.survey.specs.Flags.{lacks, also}
 
--- ---- from one column to the next
+-- ---- how many of the nets x and y do not pass a test
 
--- a net whose columns are f to l, at column c, and at the next one, d
-begin-bits : (f l c d : ℕ) → d ≡ c + 1 → bit (leb f d && leb d l && ltb f l) ≡ bit (leb f c && ltb c l && ltb f l) + bit (eqb f d && ltb f l)
-begin-bits f l c d e = elim (decLe l f) [
-  | yes none ↦ simp (le-ltb f l none, and-false)
-  | no some ↦ elim (decLe f c) [
-    | yes before ↦ elim (decLe l c) [
-      | yes over ↦ simp (le-ltb c l over, lt-leb d l (omega arith), ne-eqb f d (λ q. omega arith), and-false)
-      | no on ↦ simp (lt-ltb f l (omega arith), le-leb f c before, le-leb f d (omega arith), lt-ltb c l (omega arith), le-leb d l (omega arith), ne-eqb f d (λ q. omega arith))
+count-one : (t : ℕ → Bool) (x : ℕ) → nets (λ m. eqb x m && lacks t m) ≡ bit (lacks t x)
+unfolding lacks
+count-one t x =
+    elim (decLe 1 x) [
+      | yes l ↦ elim (decLe x topNet) [
+        | yes h ↦
+            let one : bit (eqb x x && lacks t x) ≡ bit (lacks t x) = simp (eq-eqb x x refl) in
+            omega (arith, one, sum-zero (λ m. 0) topNet (λ m i. refl), sum-change (λ m. bit (eqb x m && lacks t m)) (λ m. 0) x topNet (l, h) (λ m n. simp (ne-eqb x m (λ q. n (sym q)))))
+        | no h ↦ out (λ m i q. omega arith) ∙ sym (simp (lt-leb x topNet (omega arith), and-false))
+      ]
+      | no l ↦ out (λ m i q. omega arith) ∙ sym (simp (lt-leb 1 x (omega arith)))
     ]
-    | no after ↦ by-cases (ℕ-discrete f d)
-        (λ q. simp (lt-ltb f l (omega arith), lt-leb f c (omega arith), le-leb f d (omega arith), le-leb d l (omega arith), eq-eqb f d q))
-        (λ n. simp (lt-leb f c (omega arith), lt-leb f d (omega arith), ne-eqb f d n))
-  ]
-]
+  where
+    out : ((m : ℕ) → In m topNet → x ≡ m → ⊥) → nets (λ m. eqb x m && lacks t m) ≡ 0
+    out n = sum-zero (λ m. bit (eqb x m && lacks t m)) topNet (λ m i. simp (ne-eqb x m (n m i)))
 
-end-bits : (f l c : ℕ) → bit (leb f c && leb c l && ltb f l) ≡ bit (leb f c && ltb c l && ltb f l) + bit (eqb l c && ltb f l)
-end-bits f l c = elim (decLe l f) [
-  | yes none ↦ simp (le-ltb f l none, and-false)
-  | no some ↦ elim (decLe f c) [
-    | yes before ↦ elim (decLe l c) [
-      | yes over ↦ by-cases (ℕ-discrete l c)
-          (λ q. simp (lt-ltb f l (omega arith), le-leb f c before, le-ltb c l over, le-leb c l (omega arith), eq-eqb l c q))
-          (λ n. simp (le-ltb c l over, lt-leb c l (omega arith), ne-eqb l c n, and-false))
-      | no on ↦ simp (lt-ltb f l (omega arith), le-leb f c before, lt-ltb c l (omega arith), le-leb c l (omega arith), ne-eqb l c (λ q. omega arith))
-    ]
-    | no after ↦ simp (lt-leb f c (omega arith), ne-eqb l c (λ q. omega arith))
-  ]
-]
+two-bits : (d e i u : Bool) → bit ((d || e) && (i && not u)) ≡ bit (d && (i && not u)) + bit (e && (i && not (u || d)))
+two-bits true e i u = simp (or-true, and-false) (omega arith)
+two-bits false e i u = simp or-false (omega arith)
 
--- no net begins before column 0
-start-bits : (f l : ℕ) → bit (leb f 0 && ltb 0 l && ltb f l) ≡ bit (eqb f 0 && ltb f l)
-start-bits f l =
-    by-cases (ℕ-discrete f 0)
-    (λ z. elim (decLe l 0) [
-      | yes none ↦ simp (le-ltb f l (omega arith), and-false)
-      | no some ↦ simp (lt-ltb f l (omega arith), lt-ltb 0 l (omega arith), le-leb f 0 (omega arith), eq-eqb f 0 z)
-    ])
-    (λ n. simp (lt-leb f 0 (omega arith), ne-eqb f 0 n))
+count-two : (t : ℕ → Bool) (x y : ℕ) → nets (λ m. (eqb x m || eqb y m) && lacks t m) ≡ bit (lacks t x) + bit (lacks (also t x) y)
+unfolding lacks
+count-two t x y =
+    sum-same _ _ topNet (λ m i. two-bits (eqb x m) (eqb y m) (leb 1 m && leb m topNet) (t m))
+    ∙ sum-add (λ m. bit (eqb x m && lacks t m)) (λ m. bit (eqb y m && lacks (also t x) m)) topNet
+    ∙ ap₂ (λ (a b : ℕ). a + b) (count-one t x) (count-one (also t x) y)
 
-module _ (f l : ℕ → ℕ) where
-  pub start : count (stays f l 0) topNet ≡ count (turnsAt f f l 0) topNet
-  start = sum-same _ _ topNet (λ m i. start-bits (f m) (l m))
+pub lacks-in : (t : ℕ → Bool) (m : ℕ) → In m topNet → lacks t m ≡ not (t m)
+unfolding lacks
+lacks-in t m i = simp (le-leb 1 m (i .0), le-leb m topNet (i .1))
 
-  pub come-in : (c : ℕ) → count (passed f l (c + 1)) topNet ≡ count (stays f l c) topNet + count (turnsAt f f l (c + 1)) topNet
-  come-in c =
-      sum-same _ _ topNet (λ m i. begin-bits (f m) (l m) c (c + 1) refl)
-      ∙ sum-add (λ m. bit (stays f l c m)) (λ m. bit (turnsAt f f l (c + 1) m)) topNet
+-- ---- a net at one column: pins before it, past it, at it on either side
 
-  pub go : (c : ℕ) → count (passed f l c) topNet ≡ count (stays f l c) topNet + count (turnsAt l f l c) topNet
-  go c = sum-same _ _ topNet (λ m i. end-bits (f m) (l m) c) ∙ sum-add (λ m. bit (stays f l c m)) (λ m. bit (turnsAt l f l c m)) topNet
+begin-bits : (a b d e : Bool) → bit ((a || d || e) && (b || d || e)) ≡ bit (a && (b || d || e)) + bit ((d || e) && not a)
+begin-bits true b d e = simp and-false (omega arith)
+begin-bits false true d e = simp and-true (omega arith)
+begin-bits false false d e = simp (and-self, and-true) (omega arith)
 
--- ---- the counts of the nets that begin, and of those that end, net by net
+alone-bits : (a b d e : Bool) → bit ((a || d || e) && (b || d || e)) ≡ bit ((a || d || e) && (b || d || e) && (a || b)) + bit ((d || e) && not (a || b))
+alone-bits true b d e = simp (and-true, and-false) (omega arith)
+alone-bits false true d e = simp (and-true, and-false) (omega arith)
+alone-bits false false d e = simp (and-self, and-true, and-false) (omega arith)
 
-pub turns-none : {key counts : List ℕ} {s : Spans} → length counts ≡ 256 → ((v : ℕ) → at counts v ≡ 0) → Turns key s 0 counts
-turns-none {key} {counts} {s} e z =
-    record { size = e; each = λ v h. z v ∙ sym (sum-none (λ m. bit (turnsAt (at key) (at (s .first)) (at (s .last)) v m))) }
+both-bits : (i p q : Bool) → bit (i && not (p || q)) ≡ min (bit (i && not p)) (bit (i && not q))
+both-bits false p q = refl
+both-bits true true q = omega arith
+both-bits true false true = refl
+both-bits true false false = refl
 
-module _ {key counts : List ℕ} {s : Spans} {m : ℕ} (r : Turns key s m counts) where
-  one-more : (v : ℕ) → count (turnsAt (at key) (at (s .first)) (at (s .last)) v) (m + 1) ≡ count (turnsAt (at key) (at (s .first)) (at (s .last)) v) m + bit (turnsAt (at key) (at (s .first)) (at (s .last)) v (m + 1))
-  one-more v = sum-more (λ x. bit (turnsAt (at key) (at (s .first)) (at (s .last)) v x)) m
+spread : (p q e : Bool) → ((p || q) || e) ≡ ((p || e) || (q || e))
+spread true q e = refl
+spread false true true = refl
+spread false true false = refl
+spread false false true = refl
+spread false false false = refl
 
-  pub turns-skip : at (s .last) (m + 1) ≤ at (s .first) (m + 1) → Turns key s (m + 1) counts
-  turns-skip le =
-      record {
-        size = r .size;
-        each = λ v h.
-            let none : turnsAt (at key) (at (s .first)) (at (s .last)) v (m + 1) ≡ false = simp (le-ltb _ _ le, and-false) in
-            omega (arith, r .each v h, one-more v, bit-zero none);
-      }
+module _ (a b : ℕ → Bool) (x y : ℕ) where
+  abbrev upTo : ℕ → Bool
+  upTo = also (also a x) y
 
-  pub turns-more : (x : ℕ) → at key (m + 1) ≡ x → x < 256 → at (s .first) (m + 1) < at (s .last) (m + 1) → Turns key s (m + 1) (set counts x (at counts x + 1))
-  turns-more x e small lt =
-      record {
-        size = length-set counts x _ ∙ r .size;
-        each = λ v h.
-            let same : turnsAt (at key) (at (s .first)) (at (s .last)) v (m + 1) ≡ eqb x v = rw (e, lt-ltb _ _ lt) (and-true (eqb x v)) in
-            omega (arith, bumped-at counts x v (rw (r .size) small), r .each v h, one-more v, ap bit same);
-      }
+  abbrev onFrom : ℕ → Bool
+  onFrom = also (also b x) y
 
-pub turns-le : {key counts : List ℕ} {s : Spans} {m : ℕ} (v : ℕ) → v < 256 → Turns key s m counts → at counts v ≤ m
-turns-le {key} {counts} {s} {m} v h r = omega (arith, r .each v h, count-le (turnsAt (at key) (at (s .first)) (at (s .last)) v) m)
+  pub begin : nets (λ m. upTo m && onFrom m) ≡ nets (λ m. a m && onFrom m) + (bit (lacks a x) + bit (lacks (also a x) y))
+  begin =
+      sum-same _ _ topNet (λ m i. begin-bits (a m) (b m) (eqb x m) (eqb y m) ∙ ap (λ (t : Bool). bit (a m && onFrom m) + bit ((eqb x m || eqb y m) && t)) (sym (lacks-in a m i)))
+      ∙ sum-add (λ m. bit (a m && onFrom m)) (λ m. bit ((eqb x m || eqb y m) && lacks a m)) topNet
+      ∙ ap (λ (k : ℕ). nets (λ m. a m && onFrom m) + k) (count-two a x y)
 
--- ---- the sweep
+  pub alone : nets (λ m. upTo m && onFrom m)
+      ≡ nets (λ m. upTo m && onFrom m && (a m || b m)) + (min (bit (lacks a x)) (bit (lacks b x)) + min (bit (lacks (also a x) y)) (bit (lacks (also b x) y)))
+  unfolding lacks
+  alone =
+      sum-same _ _ topNet
+      (λ m i.
+      alone-bits (a m) (b m) (eqb x m) (eqb y m)
+      ∙ ap (λ (t : Bool). bit (upTo m && onFrom m && (a m || b m)) + bit ((eqb x m || eqb y m) && t)) (sym (lacks-in (λ m. a m || b m) m i)))
+      ∙ sum-add (λ m. bit (upTo m && onFrom m && (a m || b m))) (λ m. bit ((eqb x m || eqb y m) && lacks (λ m. a m || b m) m)) topNet
+      ∙ ap (λ (k : ℕ). nets (λ m. upTo m && onFrom m && (a m || b m)) + k)
+      (count-two (λ m. a m || b m) x y ∙ ap₂ (λ (j k : ℕ). j + k) (both-bits (leb 1 x && leb x topNet) (a x) (b x))
+      (ap (λ (t : Bool). bit (leb 1 y && leb y topNet && not t)) (spread (a y) (b y) (eqb x y)) ∙ both-bits (leb 1 y && leb y topNet) (also a x y) (also b x y)))
 
--- before column c + 1: the nets that go on from column c, and the most that a column passed. The sweep sees the counts alone, so this is said of
--- every table that has them.
-pub record Swept (begins ends : List ℕ) (now best c : ℕ) : Type 0 where
-  pub going : (s : Spans) → Turns (s .first) s topNet begins → Turns (s .last) s topNet ends → now ≡ count (stays (at (s .first)) (at (s .last)) c) topNet
-  pub largest : (s : Spans) → Turns (s .first) s topNet begins → Turns (s .last) s topNet ends
-      → best ≡ most (λ c. nets (passed (at (s .first)) (at (s .last)) c)) c
-
-pub swept-none : {begins ends : List ℕ} {now : ℕ} → now ≡ at begins 0 → Swept begins ends now 0 0
-unfolding most
-swept-none e =
-    record {
-      going = λ s t u. e ∙ t .each 0 (omega arith) ∙ sym (start (at (s .first)) (at (s .last)));
-      largest = λ s t u. refl;
-    }
-
-module _ {begins ends : List ℕ} {now best c : ℕ} (r : Swept begins ends now best c) (small : c + 1 < 256) where
-  pub swept-room : (s : Spans) → Turns (s .first) s topNet begins → Turns (s .last) s topNet ends
-      → (now + at begins (c + 1) ≤ topNet) × (at ends (c + 1) ≤ now + at begins (c + 1))
-  swept-room s t u =
-      let f = at (s .first) in
-      let l = at (s .last) in
-      omega (
-        arith,
-        r .going s t u,
-        t .each (c + 1) small,
-        u .each (c + 1) small,
-        come-in f l c,
-        go f l (c + 1),
-        count-le (passed f l (c + 1)) topNet,
-      )
-
-  pub swept-more : {now′ best′ : ℕ} → now′ ≡ now + at begins (c + 1) - at ends (c + 1) → best′ ≡ max best (now + at begins (c + 1))
-      → Swept begins ends now′ best′ (c + 1)
-  unfolding most
-  swept-more {now′} {best′} e h =
-      record {
-        going = λ s t u.
-            let f = at (s .first) in
-            let l = at (s .last) in
-            omega (arith, r .going s t u, t .each (c + 1) small, u .each (c + 1) small, come-in f l c, go f l (c + 1));
-        largest = λ s t u.
-            let f = at (s .first) in
-            let l = at (s .last) in
-            let here : now + at begins (c + 1) ≡ nets (passed f l (c + 1)) = omega (arith, r .going s t u, t .each (c + 1) small, come-in f l c) in
-            h ∙ ap₂ max (r .largest s t u) here ∙ rw add-one;
-      }
+pub end : (a b : ℕ → Bool) (x y : ℕ) → nets (λ m. upTo a b x y m && onFrom a b x y m) ≡ nets (λ m. upTo a b x y m && b m) + (bit (lacks b x) + bit (lacks (also b x) y))
+end a b x y =
+    sum-same _ _ topNet (λ m i. ap bit (and-comm (upTo a b x y m) (onFrom a b x y m)))
+    ∙ begin b a x y
+    ∙ ap (λ (k : ℕ). k + (bit (lacks b x) + bit (lacks (also b x) y))) (sum-same _ _ topNet (λ m i. ap bit (and-comm (b m) (upTo a b x y m))))

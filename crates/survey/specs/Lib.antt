@@ -1,3 +1,3 @@
-pub mod Spans
+pub mod Flags
 pub mod Survey
 pub mod Line

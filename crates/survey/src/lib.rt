@@ -7,27 +7,24 @@ use ticket::Ticket;
 ghost use mathlib.Core.Path.{_≡_};
 ghost use Prim.Native.Nat.{_+_, _*_, _-_, _≤_, _<_, min, max};
 ghost use mathlib.Core.List.{[], _∷_, _++_};
+ghost use lib.Dec.{eqb};
 ghost use lib.ListN.{length, take, drop};
-ghost use Rattle.counting.specs.Counting.{In, ceil, most};
+ghost use Rattle.counting.specs.Counting.{In, ceil};
 ghost use Rattle.grid.specs.Grid.{upright};
 ghost use Rattle.grid.specs.Legal.{topNet, entry, pinsOf, nets};
 ghost use Rattle.grid.specs.View.{longestSide};
 ghost use Rattle.density.specs.Density.{across, tracksFor, floor};
 ghost use Rattle.ticket.specs.Good.{Good};
-ghost use Rattle.survey.specs.Spans.{columnAt, passed, at, Reached, Widened, Tabled, Turns};
+ghost use Rattle.survey.specs.Flags.{at, nowhere, held, Lacks, Ended};
 ghost use Rattle.survey.specs.Survey.{layersFor, trunkFigures, boxFigures, figuresOf, answered, refused, surveyOf};
 ghost use Rattle.survey.specs.Line.{decimal, boxLine, trunkLine, refusedLine, lineFor, longestLine, Lined, Says, Adds};
 
-// The first and the last column of each net, by its number; 255 and 0 where it has no pin.
-struct Spans {
-    pub first: [u8; 256],
-    pub last: [u8; 256],
-}
-
-// How many nets begin and end at each column.
-struct Turned {
-    pub begins: [u8; 256],
-    pub ends: [u8; 256],
+// What the columns tell from the last to the first: 1 where a pin on north or on south is the last of its net, and 1 for each net that has no
+// pin past column 0.
+struct Lasts {
+    pub north: [u8; 90],
+    pub south: [u8; 90],
+    pub free: [u8; 256],
 }
 
 pub struct SurveyFigures {
@@ -81,126 +78,132 @@ fn larger(a: usize, b: usize) -> usize
     if a < b { b } else { a }
 }
 
-fn column_at(along: bool, fixed: usize, place: usize) -> usize
-    ensures { λ r. ⌜ r ≡ columnAt along fixed place ⌝ }
+// The place of a net's flag.
+fn flag_at(m: u8) -> usize
+    ensures { λ r. ⌜ (r ≡ m) × (r < 256) ⌝ }
 {
-    if along { place } else { fixed }
+    m as usize
 }
 
-// Adds a side to the table: its places lie at the columns 1, 2, .. (along), or all at one column.
-fn widen(s: Spans, list: [u8; 90], places: usize, along: bool, fixed: usize) -> Spans
-    requires { ⌜ (places ≤ longestSide) × (fixed ≤ longestSide + 1) ⌝ }
-    ensures { λ r. ⌜ Widened s (entry list) (columnAt along fixed) places r ⌝ }
+// 1 for each net number.
+fn all_nets() -> [u8; 256]
+    ensures { λ r. ⌜ Lacks nowhere r ⌝ }
 {
-    let mut first = s.first;
-    let mut last = s.last;
-    let mut i: usize = 0;
-    while i < places {
-        let m = list[i] as usize;
-        let c = column_at(along, fixed, i + 1) as u8;
-        first[m] = earlier(first[m], c);
-        last[m] = later(last[m], c);
-        i += 1;
-    }
-    Spans { first, last }
-}
-
-// Adds a side past all columns to the last columns alone: a net that has no other pins passes nothing either way.
-fn reach(last: [u8; 256], list: [u8; 90], places: usize, column: usize) -> [u8; 256]
-    requires { ⌜ (places ≤ longestSide) × (column ≤ longestSide + 1) ⌝ }
-    ensures { λ r. ⌜ Reached max last (entry list) (λ a. column) places r ⌝ }
-{
-    let mut new = last;
-    let c = column as u8;
-    let mut i: usize = 0;
-    while i < places {
-        let m = list[i] as usize;
-        new[m] = later(new[m], c);
-        i += 1;
-    }
-    new
-}
-
-// The spans of all nets.
-fn spans_of(
-    north: [u8; 90],
-    south: [u8; 90],
-    west: [u8; 90],
-    east: [u8; 90],
-    n: usize,
-    w: usize,
-) -> Spans
-    requires { ⌜ (n ≤ longestSide) × (w ≤ longestSide) ⌝ }
-    ensures { λ r. ⌜ Tabled north south west east n w r ⌝ }
-{
-    let s = Spans {
-        first: [255u8; 256],
-        last: [0u8; 256],
-    };
-    let s = widen(s, north, n, true, 0);
-    let s = widen(s, south, n, true, 0);
-    let s = widen(s, west, w, false, 0);
-    let first = s.first;
-    let old = s.last;
-    let last = reach(old, east, w, n + 1);
-    Spans { first, last }
-}
-
-// How many nets, of those with more than one column, begin and end at each column.
-fn turns(s: Spans) -> Turned
-    ensures { λ r. ⌜ (Turns (s .first) s topNet (r .begins)) × (Turns (s .last) s topNet (r .ends)) ⌝ }
-{
-    let first = s.first;
-    let last = s.last;
-    let mut begins = [0u8; 256];
-    let mut ends = [0u8; 256];
+    let mut flags = [0u8; 256];
     let mut m: usize = 0;
     while m < ticket::TOP_NET {
         m += 1;
-        if first[m] < last[m] {
-            let f = first[m] as usize;
-            let l = last[m] as usize;
-            begins[f] = begins[f] + 1;
-            ends[l] = ends[l] + 1;
+        flags[m] = 1;
+    }
+    flags
+}
+
+// 1 for each net that the side does not hold.
+fn without(side: &[u8; 90], places: usize) -> [u8; 256]
+    requires { ⌜ places ≤ longestSide ⌝ }
+    ensures { λ r. ⌜ Lacks (held (entry (now (side .entry))) places) r ⌝ }
+{
+    let mut flags = all_nets();
+    let mut i: usize = 0;
+    while i < places {
+        let m = flag_at(side[i]);
+        flags[m] = 0;
+        i += 1;
+    }
+    flags
+}
+
+// From the last column to the first, which pins are the last of their nets: `free` has the nets with no pin past the column.
+fn last_pins(north: &[u8; 90], south: &[u8; 90], east: &[u8; 90], n: usize, w: usize) -> Lasts
+    requires { ⌜ (n ≤ longestSide) × (w ≤ longestSide) ⌝ }
+    ensures { λ r. ⌜ Ended (now (north .entry)) (now (south .entry)) (now (east .entry)) n w 0 (r .north) (r .south) (r .free) ⌝ }
+{
+    let mut free = without(east, w);
+    let mut last_north = [0u8; 90];
+    let mut last_south = [0u8; 90];
+    let mut c = n;
+    while 0 < c {
+        c -= 1;
+        let m = flag_at(north[c]);
+        last_north[c] = free[m];
+        free[m] = 0;
+        let k = flag_at(south[c]);
+        last_south[c] = free[k];
+        free[k] = 0;
+    }
+    Lasts {
+        north: last_north,
+        south: last_south,
+        free,
+    }
+}
+
+// How many nets have no flag in either table.
+fn count_unflagged(a: &[u8; 256], b: &[u8; 256]) -> u8
+    ensures { λ r. ⌜ r ≡ nets (λ m. eqb (max (at (now (a .entry)) m) (at (now (b .entry)) m)) 0) ⌝ }
+{
+    let mut total: u8 = 0;
+    let mut m: usize = 0;
+    while m < ticket::TOP_NET {
+        m += 1;
+        if later(a[m], b[m]) == 0 {
+            total += 1;
         }
     }
-    Turned { begins, ends }
+    total
 }
 
-// The largest number of nets that a column passes: from column to column, those that begin come in and those that end go.
-fn most_passed(s: Spans, n: usize) -> usize
-    requires { ⌜ n ≤ longestSide ⌝ }
-    ensures { λ r. ⌜ r ≡ most (λ c. nets (passed (at (s .first)) (at (s .last)) c)) n ⌝ }
+// The nets that a column must pass: those that come to it (now) or begin there (f, g), less those that have all their pins there: they also
+// end there (x, y).
+fn passing(now: usize, f: u8, g: u8, x: u8, y: u8) -> usize
+    requires { ⌜ now ≤ topNet ⌝ }
+    ensures { λ r. ⌜ r + (min f x + min g y) ≡ now + (f + g) ⌝ }
 {
-    let t = turns(s);
-    let begins = t.begins;
-    let ends = t.ends;
-    let mut now = wide(begins[0]);
-    let mut best: usize = 0;
-    let mut c: usize = 0;
-    while c < n {
-        c += 1;
-        now += wide(begins[c]);
-        best = larger(best, now);
-        now -= wide(ends[c]);
-    }
-    best
+    now + wide(f) + wide(g) - wide(earlier(f, x)) - wide(earlier(g, y))
 }
 
-// Across; of the sides exchanged, up.
+// The nets that go on past a column: those that come to it or begin there, less those that end there.
+fn going_on(now: usize, f: u8, g: u8, x: u8, y: u8) -> usize
+    requires { ⌜ (now ≤ topNet) × (x + y ≤ now + (f + g)) ⌝ }
+    ensures { λ r. ⌜ r + (x + y) ≡ now + (f + g) ⌝ }
+{
+    now + wide(f) + wide(g) - wide(x) - wide(y)
+}
+
+// Across; of the sides exchanged, up. `fresh` has the nets with no pin before the column.
 fn density(
-    north: [u8; 90],
-    south: [u8; 90],
-    west: [u8; 90],
-    east: [u8; 90],
+    north: &[u8; 90],
+    south: &[u8; 90],
+    west: &[u8; 90],
+    east: &[u8; 90],
     n: usize,
     w: usize,
 ) -> usize
     requires { ⌜ (n ≤ longestSide) × (w ≤ longestSide) ⌝ }
-    ensures { λ r. ⌜ (r ≡ across (upright n w 1) (pinsOf north south west east)) × (r ≤ topNet) ⌝ }
+    ensures { λ r. ⌜ (r ≡ across (upright n w 1) (pinsOf (now (north .entry)) (now (south .entry)) (now (west .entry)) (now (east .entry)))) × (r ≤ topNet) ⌝ }
 {
-    let s = spans_of(north, south, west, east, n, w);
-    most_passed(s, n)
+    let lasts = last_pins(north, south, east, n, w);
+    let last_north = lasts.north;
+    let last_south = lasts.south;
+    let free = lasts.free;
+    let mut fresh = without(west, w);
+    let mut now = wide(count_unflagged(&fresh, &free));
+    let mut best: usize = 0;
+    let mut c: usize = 0;
+    while c < n {
+        let m = flag_at(north[c]);
+        let f = fresh[m];
+        fresh[m] = 0;
+        let k = flag_at(south[c]);
+        let g = fresh[k];
+        fresh[k] = 0;
+        let x = last_north[c];
+        let y = last_south[c];
+        best = larger(best, passing(now, f, g, x, y));
+        now = going_on(now, f, g, x, y);
+        c += 1;
+    }
+    best
 }
 
 fn rounded_up(a: usize, b: usize) -> usize
@@ -291,11 +294,11 @@ pub fn figures(t: Ticket) -> SurveyFigures
     let west = pins.west;
     let east = pins.east;
     let layers = layers_for(answer.kind, n, byte2);
-    let a = density(north, south, west, east, n, byte2);
+    let a = density(&north, &south, &west, &east, n, byte2);
     if answer.kind != 3 {
         return trunk_figures(byte2, a, layers);
     }
-    let u = density(east, west, south, north, byte2, n);
+    let u = density(&east, &west, &south, &north, byte2, n);
     box_figures(n, byte2, a, u, layers)
 }
 

@@ -1,0 +1,38 @@
+-- `survey::all_nets` meets its contract: 1 at the numbers passed, 0 at all else.
+use Prim.Native.Nat.{_-_, _≤_}
+use native.Mathlib.Omega.{arith}
+use borrow.Author.Needs.{needs}
+use Rattle.grid.specs.Legal.{topNet}
+use Rattle.ticket.proofs.Filled.{zeros-at}
+use Rattle.survey.proofs.Flags.{Ones, ones-none, ones-more, ones-all}
+use Rattle.survey.proofs.all_nets.Statement.{statement}
+use Rattle.survey.proofs.all_nets.Tie as tie
+
+abbrev Inv-loop : tie.InvT-loop
+Inv-loop flags₀ m₀ flags m = (m ≤ topNet) × Ones m flags
+
+abbrev μ-loop : tie.MeasureT-loop
+μ-loop flags₀ m₀ flags m = topNet - m
+
+loop-holds : tie.Need-loop-holds Inv-loop μ-loop
+loop-holds c = (omega arith, ones-none (search needs) (λ v. zeros-at 256 v))
+
+add-m : tie.Need-add-m Inv-loop μ-loop
+add-m c = search needs
+
+array-write-flags : tie.Need-array-write-flags Inv-loop μ-loop
+array-write-flags c = search needs
+
+loop-less : tie.Need-loop-less Inv-loop μ-loop
+loop-less c = search needs
+
+loop-again : tie.Need-loop-again Inv-loop μ-loop
+loop-again c = (omega arith, ones-more (omega arith) (c .before .loop .inv .1))
+
+returns : tie.Need-returns Inv-loop μ-loop
+returns c = ones-all (omega arith) (c .before .loop .inv .1)
+
+pub all-nets-spec : {M : Type 1} → statement M
+all-nets-spec =
+    tie.close
+    (tie.spec Inv-loop μ-loop loop-holds add-m array-write-flags loop-less loop-again returns)
