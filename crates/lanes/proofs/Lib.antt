@@ -1,4 +1,3 @@
 pub mod Tables
 pub mod Wanting
-pub mod Passes
-pub mod Laning
+pub mod Placing

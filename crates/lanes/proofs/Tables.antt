@@ -1,7 +1,6 @@
 -- The tables are filled place by place: what one more place of a side changes in them.
 use Prim.Native.Nat.{ℕ, zero, suc, _+_, _-_, _≤_, _<_}
 use mathlib.Core.Path.{_≡_, sym, ap, _∙_}
-use mathlib.Core.Logic.{_≢_}
 use mathlib.Core.List.{List}
 use native.Mathlib.Omega.{arith}
 use native.Mathlib.Numerals.{add-one}
@@ -13,7 +12,7 @@ use borrow.Author.Tests.{eq-eqb, ne-eqb}
 use Rattle.counting.specs.Counting.{bit, count}
 use Rattle.counting.proofs.Sums.{sum-more, sum-none}
 use Rattle.grid.specs.Legal.{entry}
-use Rattle.lanes.specs.Tables.{Counted, PlaceOf, PlacesOf}
+use Rattle.lanes.specs.Tables.{Counted}
 
 pub entry-at : (xs : List ℕ) (j : ℕ) → 1 ≤ j → entry xs j ≡ getD xs (j - 1) 0
 entry-at xs zero h = absurd (omega arith)
@@ -43,37 +42,3 @@ counted-more xs c n v e l len h = record { is = λ m b. go m b (ℕ-discrete m v
     go m b (no d) =
         let miss : bit (eqb (getD xs n 0) m) ≡ 0 = ap bit (ne-eqb (getD xs n 0) m (λ f. d (sym f ∙ sym e))) in
         omega (arith, more m, h .is m b, getD-set-other c v m (getD c v 0 + 1) 0 d)
-
--- ---- places
-
-abbrev blank : List ℕ
-blank = replicate 181 0
-
-pub places-none : (xs : List ℕ) → PlacesOf xs 0 blank
-places-none xs m l =
-    let e : getD blank m 0 ≡ 0 = getD-replicate 181 m 0 0 l in
-    record { inside = omega arith; at = λ z. absurd (z e); none = λ z i b. absurd (omega arith) }
-
-pub places-more : (xs h : List ℕ) (i v : ℕ) → v ≡ getD xs i 0 → v < 181 → length h ≡ 181 → PlacesOf xs i h → PlacesOf xs (i + 1) (set h v (i + 1))
-places-more xs h i v e b len old m l = go (ℕ-discrete m v)
-  where
-    go : Dec (m ≡ v) → PlaceOf xs (i + 1) (set h v (i + 1)) m
-    go (yes d) =
-        let here : getD (set h v (i + 1)) m 0 ≡ i + 1 = rw d (getD-set-same h v (i + 1) 0 (omega arith)) in
-        record {
-          inside = omega arith;
-          at = λ z. ap (λ (x : ℕ). getD xs x 0) (omega arith) ∙ sym e ∙ sym d;
-          none = λ z j k. absurd (omega arith);
-        }
-    go (no d) =
-        let there : getD (set h v (i + 1)) m 0 ≡ getD h m 0 = getD-set-other h v m (i + 1) 0 d in
-        let o = old m l in
-        record {
-          inside = omega (arith, o .inside);
-          at = λ z. ap (λ (x : ℕ). getD xs (x - 1) 0) there ∙ o .at (λ y. z (there ∙ y));
-          none = λ z j k. last j k (o .none (sym there ∙ z)) (ℕ-discrete j i);
-        }
-      where
-        last : (j : ℕ) → j < i + 1 → ((j : ℕ) → j < i → getD xs j 0 ≢ m) → Dec (j ≡ i) → getD xs j 0 ≢ m
-        last j k r (yes f) y = d (sym y ∙ ap (λ (x : ℕ). getD xs x 0) f ∙ sym e)
-        last j k r (no f) y = r j (omega arith) y

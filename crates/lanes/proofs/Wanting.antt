@@ -1,5 +1,5 @@
 -- The nets that get a track are found one after another: those passed have their entries, and the turn of the pairs is known.
-use Prim.Native.Nat.{ℕ, _+_, _≤_, _<_}
+use Prim.Native.Nat.{ℕ, zero, suc, _+_, _<_}
 use mathlib.Core.Path.{_≡_, refl, ap, _∙_}
 use mathlib.Core.Logic.{by-cases}
 use mathlib.Core.List.{List}
@@ -8,7 +8,7 @@ use native.Mathlib.Omega.{arith}
 use native.Mathlib.Numerals.{add-one}
 use native.Mathlib.Decide.{ℕ-discrete}
 use lib.Dec.{leb, eqb}
-use lib.ListN.{length, getD, set, replicate}
+use lib.ListN.{length, getD, set}
 use lib.Seq.{getD-set-same, getD-set-other}
 use Rattle.grid.specs.Grid.{north, south, west, east}
 use Rattle.switchbox_law.specs.Rules.{Tally, corner, alternate, gets, pair, wanted}
@@ -41,21 +41,31 @@ pub turn-more : (first : Bool) (z : ℕ → Bool) (k : ℕ) (p mine : Bool) → 
 unfolding alternate
 turn-more first z k p mine e f = rw (e, f, add-one)
 
-wanted-next : (first : Bool) (t : ℕ → Tally) (k : ℕ) → gets (t (k + 1)) (alternate first (λ m. pair (t m)) k) ≡ wanted first t (k + 1)
-wanted-next first t k = rw add-one
+-- the turns of the nets 1 to k are right
+abbrev pub Turned : Bool → (ℕ → Bool) → List Bool → ℕ → Type 0
+Turned first z out k = (m : ℕ) → m < k → getD out (m + 1) false ≡ alternate first z m
 
-module _ (first : Bool) (t : ℕ → Tally) where
-  -- the entries of the nets 0 to k are right
-  abbrev pub Found : List Bool → ℕ → Type 0
-  Found out k = (m : ℕ) → m ≤ k → getD out m false ≡ wanted first t m
+pub turned-more : (first : Bool) (z : ℕ → Bool) (out : List Bool) (k : ℕ) (mine : Bool) → length out ≡ 181 → k < 180 → mine ≡ alternate first z k
+    → Turned first z out k → Turned first z (set out (k + 1) mine) (k + 1)
+turned-more first z out k mine len b e old m l = by-cases (ℕ-discrete m k)
+    (λ d. rw d (getD-set-same out (k + 1) mine false (omega arith) ∙ e))
+    (λ d. getD-set-other out (k + 1) (m + 1) mine false (λ q. d (omega arith)) ∙ old m (omega (arith, d)))
 
-  pub found-none : Found (replicate 181 false) 0
-  found-none m l = let e : m ≡ 0 = omega arith in rw e
+turn-same : (first : Bool) (z z′ : ℕ → Bool) (k : ℕ) → ((m : ℕ) → m < k + 1 → z m ≡ z′ m) → alternate first z k ≡ alternate first z′ k
+unfolding alternate
+turn-same first z z′ zero e = refl
+turn-same first z z′ (suc k) e = rw (e (suc k) (omega arith), turn-same first z z′ k (λ m l. e m (omega arith)))
 
-  pub found-more : (out : List Bool) (k : ℕ) (mine r : Bool) → length out ≡ 181 → k < 180 → mine ≡ alternate first (λ m. pair (t m)) k → r ≡ gets (t (k + 1)) mine
-      → Found out k → Found (set out (k + 1) r) (k + 1)
-  found-more out k mine r len b e f old m l = go (ℕ-discrete m (k + 1))
-    where
-      go : Dec (m ≡ k + 1) → getD (set out (k + 1) r) m false ≡ wanted first t m
-      go (yes d) = rw d (getD-set-same out (k + 1) r false (omega arith) ∙ f ∙ ap (gets (t (k + 1))) e ∙ wanted-next first t k)
-      go (no d) = getD-set-other out (k + 1) m r false d ∙ old m (omega arith)
+-- a net is wanted if it gets a track alone, or is a pair whose turn it is
+pub wanted-by : (first : Bool) (t : ℕ → Tally) (alone pairs turn out : List Bool) → length out ≡ 181
+    → ((m : ℕ) → m < 181 → getD alone m false ≡ gets (t m) false) → ((m : ℕ) → m < 181 → getD pairs m false ≡ pair (t m))
+    → Turned first (λ k. getD pairs k false) turn 180
+    → ((m : ℕ) → m < 181 → getD out m false ≡ (getD alone m false || (getD pairs m false && getD turn m false)))
+    → (m : ℕ) → m < 181 → getD (set out 0 false) m false ≡ wanted first t m
+wanted-by first t alone pairs turn out len a p u o zero l = getD-set-same out 0 false false (omega arith)
+wanted-by first t alone pairs turn out len a p u o (suc k) l =
+    let turn-is : getD turn (suc k) false ≡ alternate first (λ m. pair (t m)) k
+    = rw add-one at (u k (omega arith)) ∙ turn-same first _ _ k (λ m b. p m (omega arith)) in
+    getD-set-other out 0 (suc k) false false (λ e. absurd (omega arith)) ∙ o (suc k) l
+    ∙ ap (λ (b : Bool). getD alone (suc k) false || (getD pairs (suc k) false && b)) turn-is
+    ∙ gets-apart (t (suc k)) _ _ _ (a (suc k) l) (p (suc k) l)

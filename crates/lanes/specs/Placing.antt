@@ -1,46 +1,41 @@
--- Nets are given lanes in two passes: first those whose lane is fixed, then the others. A list of lanes holds lane i at entry i - 1, 0 while it is free.
+-- Nets take lanes in two passes: first those with a place on the side `own`, each the lane beside its first one; then the others, in order, the lanes that were
+-- spare. A list of lanes holds lane i at entry i - 1, 0 while no net has it.
 --
---   taken lanes top             how many of lanes 1 to top are taken
---   Full lanes i                lanes 1 to i are taken
---   Request need fixed top      entry m of `need`: net m is to have one of lanes 1 to top; entry m of `fixed`: the lane that it must have, which no other net
---                               must, or 0 if any will do
---   Placed fixed top done lanes the nets of which `done` says so, and no others, have one lane each, their fixed one if they have one
---   firstPass need fixed k      the nets that have their lanes when the first pass has come to net k
---   secondPass need fixed k     .. when the second has
-use Prim.Native.Nat.{ℕ, suc, _≤_, _<_}
+--   Took own need left spare lanes n i   the first pass, when it has come past i lanes: of the nets that `need` names some have a lane beside a place of their own,
+--                                        and the others are `left` and have no place so far; the first n entries of `spare` are lanes that no net took, counted from 0
+--   Listed left list n                   the first n entries of `list` are the first n nets that are left, in order
+--   Distinct spare n                     the first n entries of `spare` are lanes, no two the same
+--   Spread placed spare list n lanes     the first n of `list` have the first n lanes of `spare`, and the other lanes are as placed
+use Prim.Native.Nat.{ℕ, suc, _+_, _≤_, _<_}
 use mathlib.Core.Path.{_≡_}
 use mathlib.Core.Logic.{_≢_}
 use mathlib.Core.List.{List}
-use mathlib.Core.Bool.{Bool, true, false, not, _&&_, _||_}
-use lib.Dec.{eqb, leb}
+use mathlib.Core.Bool.{Bool, true, false}
 use lib.ListN.{length, getD}
-use Rattle.counting.specs.Counting.{count}
-use Rattle.grid.specs.Legal.{entry, nets}
+use Rattle.counting.specs.Counting.{In, count}
+use Rattle.grid.specs.Legal.{topNet, nets}
 
-abbrev pub taken : List ℕ → ℕ → ℕ
-taken lanes top = count (λ a. not (eqb (entry lanes a) 0)) top
-
-abbrev pub Full : List ℕ → ℕ → Type 0
-Full lanes i = (k : ℕ) → k < i → getD lanes k 0 ≢ 0
-
-pub record Request (need : List Bool) (fixed : List ℕ) (top : ℕ) : Type 0 where
-  pub most : top ≤ 180
-  pub none : getD need 0 false ≡ false
-  pub room : nets (λ m. getD need m false) ≤ top
-  pub inside : (m : ℕ) → m < 181 → getD fixed m 0 ≤ top
-  pub apart : (a b : ℕ) → a < 181 → b < 181 → getD fixed a 0 ≢ 0 → getD fixed a 0 ≡ getD fixed b 0 → a ≡ b
-
-pub record Placed (fixed : List ℕ) (top : ℕ) (done : ℕ → Bool) (lanes : List ℕ) : Type 0 where
+pub record Took (own : List ℕ) (need left : List Bool) (spare lanes : List ℕ) (n i : ℕ) : Type 0 where
   pub long : length lanes ≡ 180
-  pub got : (m : ℕ) → m ≢ 0 → m < 181 → done m ≡ true
-      → (i : ℕ) × (i < top) × (getD lanes i 0 ≡ m) × (getD fixed m 0 ≢ 0 → suc i ≡ getD fixed m 0)
-  pub only : (i : ℕ) → i < top → getD lanes i 0 ≢ 0
-      → (getD lanes i 0 < 181) × (done (getD lanes i 0) ≡ true) × (getD fixed (getD lanes i 0) 0 ≢ 0 → suc i ≡ getD fixed (getD lanes i 0) 0)
-  pub once : (i j : ℕ) → i < top → j < top → getD lanes i 0 ≢ 0 → getD lanes i 0 ≡ getD lanes j 0 → i ≡ j
-  pub used : taken lanes top ≡ nets done
+  pub mine : (j : ℕ) → getD lanes j 0 ≢ 0
+      → (j < i) × (getD own j 0 ≡ getD lanes j 0) × (getD need (getD lanes j 0) false ≡ true) × (getD left (getD lanes j 0) false ≡ false)
+  pub once : (j k : ℕ) → getD lanes j 0 ≢ 0 → getD lanes j 0 ≡ getD lanes k 0 → j ≡ k
+  pub got : (m : ℕ) → getD need m false ≡ true → getD left m false ≡ false → (j : ℕ) × (getD lanes j 0 ≡ m)
+  pub waits : (m : ℕ) → getD left m false ≡ true → (getD need m false ≡ true) × ((j : ℕ) → j < i → getD own j 0 ≢ m)
+  pub few : n ≤ i
+  pub vacant : (p : ℕ) → p < n → (getD spare p 0 < i) × (getD lanes (getD spare p 0) 0 ≡ 0)
+  pub apart : (p q : ℕ) → p < q → q < n → getD spare p 0 < getD spare q 0
+  pub all : nets (λ m. getD left m false) + i ≡ nets (λ m. getD need m false) + n
 
-abbrev pub firstPass : List Bool → List ℕ → ℕ → ℕ → Bool
-firstPass need fixed k a = leb a k && (getD need a false && not (eqb (getD fixed a 0) 0))
+pub record Listed (left : List Bool) (list : List ℕ) (n : ℕ) : Type 0 where
+  pub is : (p : ℕ) → p < n → In (getD list p 0) topNet × (getD left (getD list p 0) false ≡ true) × (count (λ m. getD left m false) (getD list p 0) ≡ suc p)
 
-abbrev pub secondPass : List Bool → List ℕ → ℕ → ℕ → Bool
-secondPass need fixed k a = getD need a false && (not (eqb (getD fixed a 0) 0) || leb a k)
+pub record Distinct (spare : List ℕ) (n : ℕ) : Type 0 where
+  pub few : n ≤ 180
+  pub inside : (p : ℕ) → p < n → getD spare p 0 < 180
+  pub apart : (p q : ℕ) → p < q → q < n → getD spare p 0 < getD spare q 0
+
+pub record Spread (placed spare list : List ℕ) (n : ℕ) (lanes : List ℕ) : Type 0 where
+  pub long : length lanes ≡ 180
+  pub put : (p : ℕ) → p < n → getD lanes (getD spare p 0) 0 ≡ getD list p 0
+  pub kept : (i : ℕ) → ((p : ℕ) → p < n → getD spare p 0 ≢ i) → getD lanes i 0 ≡ getD placed i 0

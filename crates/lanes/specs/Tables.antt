@@ -2,13 +2,10 @@
 --
 --   Nets side                 a side of at most 90 places, which hold nets or 0; "one net number, 1 to 180"
 --   Counted side n counts     entry m of counts is how many of the first n places hold m
---   PlaceOf side n places m   entry m of places is a place of net m among the first n, counted from 1, or 0 if it has none there
---   PlacesOf side n places    so for every net
 --   tallies a b c d m         the pins of net m; a to d are the counts of north, south, west and east
 --   Asked ..                  lanes 1 to top are enough for the nets that get one, and there is one beside each place of the side `own`
-use Prim.Native.Nat.{ℕ, _+_, _-_, _≤_, _<_}
+use Prim.Native.Nat.{ℕ, _+_, _≤_, _<_}
 use mathlib.Core.Path.{_≡_}
-use mathlib.Core.Logic.{_≢_}
 use mathlib.Core.List.{List}
 use mathlib.Core.Bool.{Bool}
 use lib.Dec.{eqb}
@@ -23,14 +20,6 @@ pub record Nets (side : List ℕ) : Type 0 where
 
 pub record Counted (side : List ℕ) (n : ℕ) (counts : List ℕ) : Type 0 where
   pub is : (m : ℕ) → m < 181 → getD counts m 0 ≡ count (λ a. eqb (entry side a) m) n
-
-pub record PlaceOf (side : List ℕ) (n : ℕ) (places : List ℕ) (m : ℕ) : Type 0 where
-  pub inside : getD places m 0 ≤ n
-  pub at : getD places m 0 ≢ 0 → getD side (getD places m 0 - 1) 0 ≡ m
-  pub none : getD places m 0 ≡ 0 → (i : ℕ) → i < n → getD side i 0 ≢ m
-
-abbrev pub PlacesOf : List ℕ → ℕ → List ℕ → Type 0
-PlacesOf side n places = (m : ℕ) → m < 181 → PlaceOf side n places m
 
 abbrev pub tallies : List ℕ → List ℕ → List ℕ → List ℕ → ℕ → Tally
 tallies a b c d m = four (getD a m 0) (getD b m 0) (getD c m 0) (getD d m 0)

@@ -5,11 +5,12 @@ ghost use mathlib.Core.Bool.{false, not, cond, _&&_, _||_};
 ghost use Prim.Native.Nat.{ℕ, _+_, _<_, _≤_};
 ghost use lib.Dec.{ltb, eqb};
 ghost use lib.ListN.{length, getD};
-ghost use Rattle.grid.specs.Legal.{entry};
-ghost use Rattle.switchbox_law.specs.Rules.{four, gets, pair, wanted};
+ghost use Rattle.counting.specs.Counting.{bit};
+ghost use Rattle.grid.specs.Legal.{entry, nets};
+ghost use Rattle.switchbox_law.specs.Rules.{four, gets, pair, alternate, wanted};
 ghost use Rattle.switchbox_law.specs.Drawing.{Lanes};
-ghost use Rattle.lanes.specs.Tables.{Nets, Counted, PlacesOf, tallies, Asked};
-ghost use Rattle.lanes.specs.Placing.{taken, Full, Request, Placed, firstPass};
+ghost use Rattle.lanes.specs.Tables.{Nets, Counted, tallies, Asked};
+ghost use Rattle.lanes.specs.Placing.{Took, Listed, Distinct, Spread};
 
 fn both(a: bool, b: bool) -> bool
     ensures { λ r. ⌜ r ≡ (a && b) ⌝ }
@@ -42,21 +43,6 @@ pub fn count_side(side: &[u8]) -> [u8; 181]
         i += 1;
     }
     counts
-}
-
-// A place of each net on a side, counted from 1, or 0 where it has none.
-fn places_of(side: &[u8]) -> [u8; 181]
-    requires { ⌜ Nets (now side) ⌝ }
-    ensures { λ r. ⌜ PlacesOf (now (side .entry)) (length (now (side .entry))) r ⌝ }
-{
-    let mut out: [u8; 181] = [0; 181];
-    let mut i: usize = 0;
-    while i < side.len() {
-        let m = wide(side[i]);
-        i += 1;
-        out[m] = i as u8;
-    }
-    out
 }
 
 // On just two sides that meet in a corner: a and b pins there, c and d on the sides across.
@@ -118,75 +104,137 @@ fn who_alone(a: &[u8; 181], b: &[u8; 181], c: &[u8; 181], d: &[u8; 181]) -> [boo
     out
 }
 
-// Entry m says whether net m gets a track.
+// Entry m says whether it is net m's turn, if the first pair has it where `first`; entry 0 says nothing. Each net waits for the
+// one before it, so nothing else is done here.
+fn turns(pairs: &[bool; 181], first: bool) -> [bool; 181]
+    ensures { λ r. ⌜ ((m : ℕ) → m < 180 → getD r (m + 1) false ≡ alternate first (λ k. getD (now (pairs .entry)) k false) m) ⌝ }
+{
+    let mut out: [bool; 181] = [false; 181];
+    let mut mine = first;
+    let mut k: usize = 0;
+    while k < 180 {
+        k += 1;
+        out[k] = mine;
+        mine = next_turn(pairs[k], mine);
+    }
+    out
+}
+
+// Entry m says whether net m gets a track alone, or is a pair whose turn it is.
+fn alone_or_turn(alone: &[bool; 181], pairs: &[bool; 181], turn: &[bool; 181]) -> [bool; 181]
+    ensures { λ r. ⌜ ((m : ℕ) → m < 181 → getD r m false ≡ (getD (now (alone .entry)) m false || (getD (now (pairs .entry)) m false && getD (now (turn .entry)) m false))) ⌝ }
+{
+    let mut out: [bool; 181] = [false; 181];
+    let mut k: usize = 0;
+    while k < 181 {
+        out[k] = either(alone[k], both(pairs[k], turn[k]));
+        k += 1;
+    }
+    out
+}
+
+// Entry m says whether net m gets a track; 0 is no net.
 fn who_needs(a: &[u8; 181], b: &[u8; 181], c: &[u8; 181], d: &[u8; 181], first: bool) -> [bool; 181]
     requires { ⌜ ((m : ℕ) → m < 181 → getD (now a) m 0 + getD (now b) m 0 ≤ 255) ⌝ }
     ensures { λ r. ⌜ ((m : ℕ) → m < 181 → getD r m false ≡ wanted first (tallies (now (a .entry)) (now (b .entry)) (now (c .entry)) (now (d .entry))) m) ⌝ }
 {
     let alone = who_alone(a, b, c, d);
     let pairs = who_pairs(a, b, c, d);
-    let mut out: [bool; 181] = [false; 181];
-    let mut mine = first;
-    let mut k: usize = 0;
-    while k < 180 {
-        k += 1;
-        let p = pairs[k];
-        out[k] = either(alone[k], both(p, mine));
-        mine = next_turn(p, mine);
-    }
+    let turn = turns(&pairs, first);
+    let mut out = alone_or_turn(&alone, &pairs, &turn);
+    out[0] = false;
     out
 }
 
-// Each net that needs a lane and has a fixed one takes it. Here and in first_free, `top` is for the contract alone: the lanes
-// suffice, so that no run past them is tested for.
-fn place_fixed(need: &[bool; 181], fixed: &[u8; 181], top: usize) -> [u8; 180]
-    requires { ⌜ Request (now need) (now fixed) top ⌝ }
-    ensures { λ r. ⌜ Placed (now (fixed .entry)) top (firstPass (now (need .entry)) (now (fixed .entry)) 180) r ⌝ }
+// The net at place i + 1 of a side, 0 past its end.
+fn net_at(side: &[u8], i: usize) -> usize
+    ensures { λ r. ⌜ r ≡ getD (now (side .entry)) i 0 ⌝ }
+{
+    if i < side.len() {
+        return wide(side[i]);
+    }
+    0
+}
+
+// The net m if it takes the lane, else 0.
+fn if_taken(taken: bool, m: usize) -> u8
+    requires { ⌜ m ≤ 180 ⌝ }
+    ensures { λ r. ⌜ r ≡ cond taken m 0 ⌝ }
+{
+    if taken { m as u8 } else { 0 }
+}
+
+fn one_if(b: bool) -> u8
+    ensures { λ r. ⌜ r ≡ bit b ⌝ }
+{
+    if b { 1 } else { 0 }
+}
+
+fn one_unless(b: bool) -> usize
+    ensures { λ r. ⌜ r ≡ bit (not b) ⌝ }
+{
+    if b { 0 } else { 1 }
+}
+
+// The first pass: each net that needs a lane and has a place on the side takes the lane beside its first one. `left` are the
+// nets that still need a lane, and `spare` lists the lanes that no net took, in order. No branch depends on the nets.
+fn take_own(own: &[u8], top: usize, left: &mut [bool; 181], spare: &mut [u8; 181]) -> [u8; 180]
+    requires { ⌜ (top ≤ 180) × Nets (now own) × (getD (now left) 0 false ≡ false) × (length (now left) ≡ 181) × (length (now spare) ≡ 181) ⌝ }
+    ensures { λ r. ⌜ ((n : ℕ) × Took (now (own .entry)) (now (left .entry)) (now (left .exit)) (now (spare .exit)) r n top) ⌝ }
 {
     let mut lanes: [u8; 180] = [0; 180];
-    let mut k: usize = 0;
-    while k < 180 {
-        k += 1;
-        if need[k] {
-            let j = wide(fixed[k]);
-            if j > 0 {
-                lanes[j - 1] = k as u8;
-            }
-        }
+    let mut count: usize = 0;
+    let mut i: usize = 0;
+    while i < top {
+        let m = net_at(own, i);
+        let taken = left[m];
+        left[m] = false;
+        lanes[i] = if_taken(taken, m);
+        spare[count] = i as u8;
+        count += one_unless(taken);
+        i += 1;
     }
     lanes
 }
 
-// The first free lane; those before `from` are taken.
-fn first_free(lanes: &[u8; 180], top: usize, from: usize) -> usize
-    requires { ⌜ (top ≤ 180) × (from ≤ top) × Full (now lanes) from × (taken (now lanes) top < top) ⌝ }
-    ensures { λ r. ⌜ (r < top) × (getD (now (lanes .entry)) r 0 ≡ 0) × Full (now (lanes .entry)) r ⌝ }
+// The nets that are left, in order. Each is written, and written over if it is not left: no branch depends on the nets.
+fn list_left(left: &[bool; 181]) -> [u8; 181]
+    ensures { λ r. ⌜ Listed (now (left .entry)) r (nets (λ m. getD (now (left .entry)) m false)) ⌝ }
 {
-    let mut i = from;
-    while lanes[i] != 0 {
-        i += 1;
-    }
-    i
-}
-
-// Each other net that needs a lane takes the first that is free.
-fn place_free(need: &[bool; 181], fixed: &[u8; 181], top: usize, placed: [u8; 180]) -> [u8; 180]
-    requires { ⌜ Request (now need) (now fixed) top ⌝ }
-    requires { ⌜ Placed (now fixed) top (firstPass (now need) (now fixed) 180) placed ⌝ }
-    ensures { λ r. ⌜ Placed (now (fixed .entry)) top (λ m. getD (now (need .entry)) m false) r ⌝ }
-{
-    let mut lanes = placed;
-    let mut next: usize = 0;
+    let mut list: [u8; 181] = [0; 181];
+    let mut count: usize = 0;
     let mut k: usize = 0;
     while k < 180 {
         k += 1;
-        if need[k] {
-            if fixed[k] == 0 {
-                let i = first_free(&lanes, top, next);
-                lanes[i] = k as u8;
-                next = i + 1;
-            }
-        }
+        list[count] = k as u8;
+        count += wide(one_if(left[k]));
+    }
+    list
+}
+
+fn count_left(left: &[bool; 181]) -> usize
+    ensures { λ r. ⌜ r ≡ nets (λ m. getD (now (left .entry)) m false) ⌝ }
+{
+    let mut count: u8 = 0;
+    let mut k: usize = 0;
+    while k < 180 {
+        k += 1;
+        count += one_if(left[k]);
+    }
+    wide(count)
+}
+
+// The second pass: the first `count` of the list take the first spare lanes.
+fn fill_spare(placed: [u8; 180], spare: &[u8; 181], list: &[u8; 181], count: usize) -> [u8; 180]
+    requires { ⌜ Distinct (now spare) count ⌝ }
+    ensures { λ r. ⌜ Spread placed (now (spare .entry)) (now (list .entry)) count r ⌝ }
+{
+    let mut lanes = placed;
+    let mut p: usize = 0;
+    while p < count {
+        let i = wide(spare[p]);
+        lanes[i] = list[p];
+        p += 1;
     }
     lanes
 }
@@ -205,8 +253,10 @@ pub fn lanes(
     requires { ⌜ Asked (now a) (now b) (now c) (now d) (now own) top first ⌝ }
     ensures { λ r. ⌜ Lanes (wanted first (tallies (now (a .entry)) (now (b .entry)) (now (c .entry)) (now (d .entry)))) (entry (now (own .entry))) (length (now (own .entry))) top (entry r) ⌝ }
 {
-    let need = who_needs(a, b, c, d, first);
-    let fixed = places_of(own);
-    let placed = place_fixed(&need, &fixed, top);
-    place_free(&need, &fixed, top, placed)
+    let mut left = who_needs(a, b, c, d, first);
+    let mut spare: [u8; 181] = [0; 181];
+    let placed = take_own(own, top, &mut left, &mut spare);
+    let list = list_left(&left);
+    let count = count_left(&left);
+    fill_spare(placed, &spare, &list, count)
 }

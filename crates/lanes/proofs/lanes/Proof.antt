@@ -1,29 +1,48 @@
--- The nets that need a lane and the places of the side `own` are a request, and what the two passes place are `Lanes`.
-use Rattle.lanes.specs.Placing.{Request}
-use Rattle.lanes.proofs.Laning.{request, lanes-of}
+-- The nets that are wanted take lanes in two passes.
+use mathlib.Core.Path.{refl}
+use native.Mathlib.Omega.{arith}
+use borrow.Author.Needs.{needs}
+use Rattle.lanes.proofs.Placing.{lanes-distinct, lanes-of}
 use Rattle.lanes.proofs.lanes.Statement.{statement}
 use Rattle.lanes.proofs.lanes.Tie as tie
 
 who-needs-requires : tie.Need-who-needs-requires
 who-needs-requires c κs = c .before .pre .fits
 
-places-of-requires : tie.Need-places-of-requires
-places-of-requires c κs = c .before .before .pre .side
+take-own-requires : tie.Need-take-own-requires
+take-own-requires c κs =
+    let start = c .before .before .before .before in
+    (start .pre .most, start .pre .side, c .before .before .who-needs .ensures 0 (omega arith), omega (arith, c .before .before .who-needs .ok), refl)
 
-asked : (c : tie.After-places-of) → Request (c .before .who-needs .result) (c .places-of .result) (c .before .before .before .args .top)
-asked c = request _ _ _ _ _ _ _ (c .before .before .before .pre) (c .before .who-needs .result) (c .before .who-needs .ensures) (c .places-of .result) (c .places-of .ensures)
+list-left-requires : tie.Need-list-left-requires
+list-left-requires c κs = search needs
 
-place-fixed-requires : tie.Need-place-fixed-requires
-place-fixed-requires c κs = asked (c .before .before)
+count-left-requires : tie.Need-count-left-requires
+count-left-requires c κs = search needs
 
-place-free-requires : tie.Need-place-free-requires
-place-free-requires c κs = (asked (c .before .before .before .before .before), c .before .before .place-fixed .ensures)
+fill-spare-requires : tie.Need-fill-spare-requires
+fill-spare-requires c κs =
+    let c6 = c .before .before .before .before .before .before in
+    let c9 = c6 .before .before .before in
+    let own = c6 .take-own .ensures in
+    rw (c .before .before .count-left .ensures) (lanes-distinct _ _ _ _ _ _ _ (c9 .before .before .pre) _ (c9 .who-needs .ensures) _ _ _ (own .0) (own .1))
 
 returns : tie.Need-returns
 returns c =
-    let p = c .before .before .before .before .before .before in
-    lanes-of _ _ _ _ _ _ _ (p .before .before .before .pre) (p .before .who-needs .result) (p .before .who-needs .ensures) (p .places-of .result) (p .places-of .ensures)
-    (c .place-free .result) (c .place-free .ensures)
+    let c3 = c .before .before .before in
+    let c7 = c3 .before .before .before .before in
+    let c10 = c7 .before .before .before in
+    let own = c7 .take-own .ensures in
+    lanes-of _ _ _ _ _ _ _ (c10 .before .before .pre) _ (c10 .who-needs .ensures) _ _ _ (own .0) (own .1) _ _ (c3 .before .before .list-left .ensures)
+    (rw (c3 .count-left .ensures) at (c .fill-spare .ensures))
 
 pub lanes-spec : {M : Type 1} → statement M
-lanes-spec = tie.close (tie.spec who-needs-requires places-of-requires place-fixed-requires place-free-requires returns)
+lanes-spec =
+    tie.close
+    (tie.spec
+    who-needs-requires
+    take-own-requires
+    list-left-requires
+    count-left-requires
+    fill-spare-requires
+    returns)
