@@ -1,11 +1,11 @@
 -- Laws of painting: byte by byte, row by row, in the middle of a buffer, and layer by layer.
 use Prim.Native.Nat.{ℕ, zero, suc, _+_, _*_, _-_, _≤_, _<_}
 use mathlib.Core.Path.{_≡_, refl, sym, ap, ap₂, subst, _∙_}
-use mathlib.Core.Logic.{_⊎_, inl, inr, ⊎-elim, by-cases}
+use mathlib.Core.Logic.{inl, inr, ⊎-elim, by-cases}
 use mathlib.Core.List.{List}
 use native.Mathlib.Omega.{arith}
-use native.Mathlib.Decide.{ℕ-discrete, decLe, decLt}
-use native.Mathlib.Nat.{zero-mul, add-sub-cancel-left, mul-one, suc-mul, mul-comm, mul-le-mul-right}
+use native.Mathlib.Decide.{ℕ-discrete, decLt}
+use native.Mathlib.Nat.{zero-mul, add-sub-cancel-left, mul-one, suc-mul, mul-add, add-mul, mul-comm, mul-le-mul-right, lt-of-mul-lt-mul-right}
 use native.Mathlib.Numerals.{add-one}
 use mathlib.Core.List.{_++_}
 use lib.ListN.{length, getD, set, take, drop, length-set, length-take, length-drop, List·getD-append}
@@ -51,6 +51,14 @@ bytes-rows {before} {after} {n} {m} {v} {f} one size same s = record {
       ∙ s .here j 0 (omega arith) (omega arith) ∙ same j ∙ sym (ap (λ (u : ℕ). f u j) first);
 }
 
+-- rows of as many bytes, with the same values
+pub striped-as : {before after : List ℕ} {m n w : ℕ} {f g : ℕ → ℕ → ℕ} → m ≡ n → ((i j : ℕ) → i < n → j < w → f i j ≡ g i j)
+    → Striped before after m w f → Striped before after n w g
+striped-as {before} {after} {m} {n} {w} {f} size same s = record {
+  long = s .long;
+  here = λ i j hi hj. ap (λ (u : ℕ). getD after (j * u + i) 0) (sym size) ∙ s .here i j (omega arith) hj ∙ same i j hi hj;
+}
+
 -- the row's first bytes are as many as the values, and rows of them are rows of the values
 pub held-size : {row values : List ℕ} → length values ≤ 90 → Starts row values → length (take (length values) row) ≡ length values
 held-size {row} {values} few r = length-take-le (length values) row (omega (arith, r .long))
@@ -58,14 +66,8 @@ held-size {row} {values} few r = length-take-le (length values) row (omega (arit
 pub held-rows : {before after row values : List ℕ} {w : ℕ} → length values ≤ 90 → Starts row values
     → Striped before after (length (take (length values) row)) w (λ i j. getD (take (length values) row) i 0)
     → Striped before after (length values) w (λ i j. getD values i 0)
-held-rows {before} {after} {row} {values} {w} few r s = record {
-  long = s .long;
-  here = λ i j hi hj. subst (λ (u : ℕ). getD after (j * u + i) 0 ≡ getD (take (length values) row) i 0) size (s .here i j (omega (arith, size)) hj)
-      ∙ getD-take (length values) row i 0 hi ∙ r .here i hi;
-}
-  where
-    size : length (take (length values) row) ≡ length values
-    size = held-size few r
+held-rows {before} {after} {row} {values} {w} few r s =
+    striped-as (held-size few r) (λ i j hi hj. getD-take (length values) row i 0 hi ∙ r .here i hi) s
 
 -- row j, and byte i of it, lie within w rows of n
 pub row-in : (n w j : ℕ) → j < w → j * n + n ≤ n * w
@@ -113,19 +115,6 @@ put-striped {from} {k} {n} {w} {f} xs ys size fits s = record {
     many : length ys ≡ k
     many = s .long ∙ mid-long from k xs fits
 
-pub row-none : (l : List ℕ) (n : ℕ) (f : ℕ → ℕ → ℕ) → Striped l l n 0 f
-row-none l n f = record { long = refl; here = λ i j h k. absurd (omega arith) }
-
--- row j starts where the rows before it end
-pub row-next : {before now after : List ℕ} {n j from : ℕ} {f : ℕ → ℕ → ℕ} → from ≡ j * n → Striped before now n j f
-    → Painted now after from n 1 (λ i z. f i j) → Striped before after n (suc j) f
-row-next {before} {now} {after} {n} {j} {from} {f} start s p = record {
-  long = p .long ∙ s .long;
-  here = λ i k hi hk. by-cases (ℕ-discrete k j)
-      (λ e. rw e (ap (λ (u : ℕ). getD after u 0) (omega (arith, zero-mul n)) ∙ p .here i 0 hi (omega arith)))
-      (λ ne. p .others (k * n + i) (inl (omega (arith, inside n j i k hi (omega arith), mul-comm n j))) ∙ s .here i k hi (omega arith));
-}
-
 -- n bytes that are lent, striped and handed back
 pub put-row : {from n k : ℕ} {f : ℕ → ℕ → ℕ} (xs ys : List ℕ) → k ≡ n → from + n ≤ length xs → Striped (midOf from k xs) ys (length (midOf from k xs)) 1 f
     → Painted xs (putMid from k xs ys) from n 1 f
@@ -133,15 +122,93 @@ put-row {from} {n} {k} {f} xs ys size fits s =
     let many : length (midOf from k xs) ≡ n = mid-long from k xs (omega arith) ∙ size in
     put-striped {k = k} {n = n} {w = 1} xs ys (omega (arith, mul-one n)) (omega arith) (subst (λ (u : ℕ). Striped (midOf from k xs) ys u 1 f) many s)
 
-pub row-step : {before now : List ℕ} {n j from k : ℕ} {f : ℕ → ℕ → ℕ} (ys : List ℕ) → from ≡ j * n → k ≡ n → from + n ≤ length now → Striped before now n j f
-    → Striped (midOf from k now) ys (length (midOf from k now)) 1 (λ i z. f i j) → Striped before (putMid from k now ys) n (j + 1) f
-row-step {before} {now} {n} {j} {from} {k} {f} ys start size fits s r = rw add-one (row-next start s (put-row now ys size fits r))
-
 pub next-row : (from n j : ℕ) → from ≡ j * n → from + n ≡ (j + 1) * n
 next-row from n j e = rw add-one (omega (arith, suc-mul j n))
 
-pub rows-all : {before after : List ℕ} {n w j : ℕ} {f : ℕ → ℕ → ℕ} → w ≤ j → Striped before after n j f → Striped before after n w f
-rows-all h s = record { long = s .long; here = λ i j hi hj. s .here i j hi (omega arith) }
+-- ---- row by row: of w rows of n bytes those above row j are f, and row j starts at `from`
+
+pub record Above (before now : List ℕ) (n w j from : ℕ) (f : ℕ → ℕ → ℕ) : Type 0 where
+  pub start : from ≡ j * n
+  pub size : length before ≡ n * w
+  pub within : j ≤ w
+  pub rows : Striped before now n j f
+
+pub above-none : {before : List ℕ} {n w : ℕ} {f : ℕ → ℕ → ℕ} → length before ≡ n * w → Above before before n w 0 0 f
+above-none {n = n} size = record {
+  start = omega (arith, zero-mul n);
+  size = size;
+  within = omega arith;
+  rows = record { long = refl; here = λ i j h k. absurd (omega arith) };
+}
+
+pub above-all : {before now : List ℕ} {n w j from : ℕ} {f : ℕ → ℕ → ℕ} → w ≤ j → Above before now n w j from f → Striped before now n w f
+above-all h a = record { long = a .rows .long; here = λ i k hi hk. a .rows .here i k hi (omega arith) }
+
+pub above-within : {before now : List ℕ} {n w j from : ℕ} {f : ℕ → ℕ → ℕ} → Above before now n w j from f → from ≤ length before
+above-within {n = n} {w = w} a = omega (arith, mul-le-mul-right n (a .within), mul-comm w n, a)
+
+-- a row within w rows is within the bytes, and the other way
+pub above-fits : {before now : List ℕ} {n w j from : ℕ} {f : ℕ → ℕ → ℕ} → j < w → Above before now n w j from f → from + n ≤ length before
+above-fits {n = n} {w = w} {j = j} h a = omega (arith, row-in n w j h, a)
+
+pub above-left : {before now : List ℕ} {n w j from : ℕ} {f : ℕ → ℕ → ℕ} → from < length before → Above before now n w j from f → j < w
+above-left {n = n} {w = w} h a = lt-of-mul-lt-mul-right n (omega (arith, mul-comm w n, a))
+
+-- row j is the first n of m bytes that are written at its start
+pub above-step : {before now : List ℕ} {n w j from : ℕ} {f g : ℕ → ℕ → ℕ} (m : ℕ) (ys : List ℕ) → n ≤ m → from + m ≤ length before → j < w
+    → ((i : ℕ) → i < n → g i 0 ≡ f i j) → Above before now n w j from f → Striped (midOf from (from + m - from) now) ys (length (midOf from (from + m - from) now)) 1 g
+    → Above before (putMid from (from + m - from) now ys) n w (j + 1) (from + n) f
+above-step {before} {now} {n} {w} {j} {from} {f} {g} m ys wide fits h same a s = record {
+  start = next-row from n j (a .start);
+  size = a .size;
+  within = omega arith;
+  rows = record {
+    long = p .long ∙ a .rows .long;
+    here = λ i k hi hk. by-cases (ℕ-discrete k j)
+        (λ e. rw e (ap (λ (u : ℕ). getD after u 0) (omega (arith, zero-mul m, a .start)) ∙ p .here i 0 (omega arith) (omega arith) ∙ same i hi))
+        (λ ne. p .others (k * n + i) (inl (omega (arith, inside n j i k hi (omega arith), mul-comm n j, a .start))) ∙ a .rows .here i k hi (omega arith));
+  };
+}
+  where
+    after : List ℕ
+    after = putMid from (from + m - from) now ys
+
+    p : Painted now after from m 1 g
+    p = put-row now ys (add-sub-cancel-left from m) (omega (arith, a .rows .long)) s
+
+-- the other m rows are lent, striped and handed back
+module _ {before now : List ℕ} {n w j from : ℕ} {f : ℕ → ℕ → ℕ} (m : ℕ) (all : j + m ≡ w) (a : Above before now n w j from f) where
+  rest-size : from + n * m ≡ length before
+  rest-size = let e : n * (j + m) ≡ n * w = ap (λ (u : ℕ). n * u) all in omega (arith, mul-add n j m, mul-comm j n, a)
+
+  pub rest-long : length (midOf from (length before - from) now) ≡ n * m
+  rest-long = mid-long from (length before - from) now (omega (arith, rest-size, a .rows .long)) ∙ omega (arith, rest-size)
+
+  pub above-rest : {ys : List ℕ} → Striped (midOf from (length before - from) now) ys n m (λ i z. f i (j + z))
+      → Striped before (putMid from (length before - from) now ys) n w f
+  above-rest {ys} s = record {
+    long = p .long ∙ a .rows .long;
+    here = λ i k hi hk. elim (decLt k j) [
+      | yes h ↦ p .others (k * n + i) (inl (omega (arith, inside n j i k hi h, mul-comm n j, a .start))) ∙ a .rows .here i k hi h
+      | no h ↦
+          let e : j + (k - j) ≡ k = omega arith in
+          subst (λ (u : ℕ). getD after (u * n + i) 0 ≡ f i u) e
+          (ap (λ (u : ℕ). getD after u 0) (omega (arith, add-mul j (k - j) n, a .start)) ∙ p .here i (k - j) hi (omega arith))
+    ];
+  }
+    where
+      after : List ℕ
+      after = putMid from (length before - from) now ys
+
+      p : Painted now after from n m (λ i z. f i (j + z))
+      p = put-striped {k = length before - from} now ys (omega (arith, rest-size)) (omega (arith, rest-size, a .rows .long)) s
+
+-- the values of these rows
+pub rest-values : (j : ℕ) (values : List ℕ) → j ≤ length values → j + length (midOf j (length values - j) values) ≡ length values
+rest-values j values h = omega (arith, mid-long j (length values - j) values (omega arith))
+
+pub rest-value : (j z : ℕ) (values : List ℕ) → z < length (midOf j (length values - j) values) → getD (midOf j (length values - j) values) z 0 ≡ getD values (j + z) 0
+rest-value j z values h = getD-take (length values - j) (drop j values) z 0 (omega (arith, length-take (length values - j) (drop j values))) ∙ getD-drop j values z 0
 
 -- ---- a layer that is lent, striped and handed back
 

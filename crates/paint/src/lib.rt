@@ -49,6 +49,23 @@ fn held(values: &[u8]) -> [u8; 90]
     row
 }
 
+// Of w rows each is a copy of row's first n bytes, at most 16. A row is written as 16 bytes, which is one store; what runs past its end the next
+// rows overwrite. The last rows, where fewer than 16 bytes are left, are copied as they are.
+fn narrow_rows(part: &mut [u8], row: &[u8], n: usize, w: usize)
+    requires { ⌜ (n ≤ 16) × (16 ≤ length (now row)) × (length (now part) ≡ n * w) ⌝ }
+    ensures { λ _. ⌜ Striped (now (part .entry)) (now (part .exit)) n w (λ i j. getD (now (row .entry)) i 0) ⌝ }
+{
+    let len = part.len();
+    let mut from: usize = 0;
+    let mut j: usize = 0;
+    while len - from >= 16 {
+        copy(&mut part[from..from + 16], &row[..16]);
+        from += n;
+        j += 1;
+    }
+    rows(&mut part[from..len], &row[..n], w - j);
+}
+
 // Of w tracks each is a copy of values, so that column i is values[i - 1] from end to end. The compiler knows that an array
 // held here is apart from the part, and copies its rows without a test.
 fn columns(part: &mut [u8], values: &[u8], w: usize)
@@ -66,6 +83,10 @@ fn columns(part: &mut [u8], values: &[u8], w: usize)
     }
     let row = held(values);
     let r = &row[..];
+    if n <= 16 {
+        narrow_rows(part, r, n, w);
+        return;
+    }
     rows(part, &r[..n], w);
 }
 
@@ -81,6 +102,22 @@ fn runs(part: &mut [u8], values: &[u8], n: usize)
     }
 }
 
+// The same for rows of at most 16 bytes, written as in `narrow_rows`.
+fn narrow_runs(part: &mut [u8], values: &[u8], n: usize)
+    requires { ⌜ (n ≤ 16) × (length (now part) ≡ n * length (now values)) ⌝ }
+    ensures { λ _. ⌜ Striped (now (part .entry)) (now (part .exit)) n (length (now (values .entry))) (λ i j. getD (now (values .entry)) j 0) ⌝ }
+{
+    let len = part.len();
+    let mut from: usize = 0;
+    let mut j: usize = 0;
+    while len - from >= 16 {
+        fill(&mut part[from..from + 16], values[j]);
+        from += n;
+        j += 1;
+    }
+    runs(&mut part[from..len], &values[j..], n);
+}
+
 // Track j is values[j - 1] in each of its n columns.
 fn tracks(part: &mut [u8], values: &[u8], n: usize)
     requires { ⌜ length (now part) ≡ n * length (now values) ⌝ }
@@ -88,6 +125,10 @@ fn tracks(part: &mut [u8], values: &[u8], n: usize)
 {
     if n == 1 {
         copy(part, values);
+        return;
+    }
+    if n <= 16 {
+        narrow_runs(part, values, n);
         return;
     }
     runs(part, values, n);

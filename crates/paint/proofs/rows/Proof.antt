@@ -1,11 +1,8 @@
-use Prim.Native.Nat.{ℕ, _+_, _*_, _-_, _≤_}
-use mathlib.Core.Path.{_≡_, subst, _∙_}
+use Prim.Native.Nat.{_-_}
+use mathlib.Core.Path.{refl}
 use native.Mathlib.Omega.{arith}
-use native.Mathlib.Nat.{zero-mul, add-sub-cancel-left}
-use native.Mathlib.Numerals.{add-one}
 use lib.ListN.{length, getD}
-use Rattle.paint.specs.Paint.{Striped}
-use Rattle.paint.proofs.Laws.{row-in, row-none, row-step, next-row, rows-all, mid-size}
+use Rattle.paint.proofs.Laws.{Above, above-none, above-fits, above-step, above-all, mid-size}
 use Rattle.paint.proofs.rows.Statement.{statement}
 use Rattle.paint.proofs.rows.Tie as tie
 use Rattle.paint.proofs.rows.Reads as reads
@@ -13,18 +10,18 @@ use Rattle.paint.proofs.rows.Lts as lts
 use Rattle.paint.proofs.copy.Reads as copy-reads
 
 abbrev Inv-loop : tie.InvT-loop
-Inv-loop part₀ values w n from₀ j₀ part from j = (j ≤ w) × (from ≡ j * length values) × Striped part₀ part (length values) j (λ i z. getD values i 0)
+Inv-loop part₀ values w n from₀ j₀ part from j = Above part₀ part (length values) w j from (λ i z. getD values i 0)
 
 abbrev μ-loop : tie.MeasureT-loop
 μ-loop part₀ values w n from₀ j₀ part from j = w - j
 
 -- src/lib.rt:34:5
 loop-holds : tie.Need-loop-holds Inv-loop μ-loop
-loop-holds c = (omega arith, omega (arith, zero-mul (length (c .before .before .args .values .now))), row-none _ _ _)
+loop-holds c = above-none (c .before .before .pre)
 
 -- src/lib.rt:35:30
 add-copy : tie.Need-add-copy Inv-loop μ-loop
-add-copy c = omega (arith, row-in (length (c .before .before .before .before .args .values .now)) (c .before .before .before .before .args .w) (c .before .loop .j) (omega arith), c .before .loop .inv .2 .long)
+add-copy c = omega (arith, above-fits (omega arith) (c .before .loop .inv), c .before .loop .inv .rows .long)
 
 -- src/lib.rt:35:14
 sub-copy : tie.Need-sub-copy Inv-loop μ-loop
@@ -36,15 +33,19 @@ part-copy-start c = omega arith
 
 -- src/lib.rt:35:14
 part-copy-end : tie.Need-part-copy-end Inv-loop μ-loop
-part-copy-end c = omega (arith, row-in (length (c .before .before .before .before .args .values .now)) (c .before .before .before .before .args .w) (c .before .loop .j) (omega arith), c .before .loop .inv .2 .long)
+part-copy-end c = omega (arith, above-fits (omega arith) (c .before .loop .inv), c .before .loop .inv .rows .long)
 
 -- src/lib.rt:35:9
 copy-requires : tie.Need-copy-requires Inv-loop μ-loop
-copy-requires c κs = mid-size (c .before .before .loop .from) (length (c .before .before .before .before .before .args .values .now)) (c .before .before .loop .part) (omega (arith, row-in (length (c .before .before .before .before .before .args .values .now)) (c .before .before .before .before .before .args .w) (c .before .before .loop .j) (omega arith), c .before .before .loop .inv .2 .long))
+copy-requires c κs =
+    let c2 = c .before .before in
+    mid-size (c2 .loop .from) _ (c2 .loop .part) (omega (arith, above-fits (omega arith) (c2 .loop .inv), c2 .loop .inv .rows .long))
 
 -- src/lib.rt:36:9
 add-from : tie.Need-add-from Inv-loop μ-loop
-add-from c = omega (arith, row-in (length (c .before .before .before .before .before .before .before .before .args .values .now)) (c .before .before .before .before .before .before .before .before .args .w) (c .before .before .before .before .before .loop .j) (omega arith), c .before .before .before .before .before .loop .inv .2 .long)
+add-from c =
+    let a = c .before .before .before .before .before .loop .inv in
+    omega (arith, above-fits (omega arith) a, a .rows .long)
 
 -- src/lib.rt:34:9
 add-j : tie.Need-add-j Inv-loop μ-loop
@@ -56,15 +57,17 @@ loop-less c = omega arith
 
 -- src/lib.rt:34:5
 loop-again : tie.Need-loop-again Inv-loop μ-loop
-loop-again c = (omega arith, next-row _ _ (c .before .before .before .before .before .loop .j) (c .before .before .before .before .before .loop .inv .1), row-step _ (c .before .before .before .before .before .loop .inv .1) (add-sub-cancel-left _ _) (omega (arith, row-in (length (c .before .before .before .before .before .before .before .before .args .values .now)) (c .before .before .before .before .before .before .before .before .args .w) (c .before .before .before .before .before .loop .j) (omega arith), c .before .before .before .before .before .loop .inv .2 .long)) (c .before .before .before .before .before .loop .inv .2) (c .before .before .copy .ensures))
+loop-again c =
+    let a = c .before .before .before .before .before .loop .inv in
+    above-step _ _ (omega arith) (above-fits (omega arith) a) (omega arith) (λ i h. refl) a (c .before .before .copy .ensures)
 
 -- src/lib.rt:28:1
 same-length : tie.Need-same-length Inv-loop μ-loop
-same-length c = c .before .loop .inv .2 .long
+same-length c = c .before .loop .inv .rows .long
 
 -- src/lib.rt:28:1
 returns : tie.Need-returns Inv-loop μ-loop
-returns c = rows-all (omega arith) (c .before .loop .inv .2)
+returns c = above-all (omega arith) (c .before .loop .inv)
 
 pub rows-spec : {M : Type 1} → statement M
 rows-spec =
