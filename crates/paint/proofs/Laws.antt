@@ -1,20 +1,20 @@
 -- Laws of painting: byte by byte, row by row, in the middle of a buffer, and layer by layer.
-use Prim.Native.Nat.{ℕ, zero, suc, _+_, _*_, _-_, _≤_, _<_}
+use Prim.Native.Nat.{ℕ, zero, suc, _+_, _*_, _-_, _/_, _%_, _≤_, _<_}
 use mathlib.Core.Path.{_≡_, refl, sym, ap, ap₂, subst, _∙_}
 use mathlib.Core.Logic.{inl, inr, ⊎-elim, by-cases}
 use mathlib.Core.List.{List}
 use native.Mathlib.Omega.{arith}
 use native.Mathlib.Decide.{ℕ-discrete, decLt}
-use native.Mathlib.Nat.{zero-mul, add-sub-cancel-left, mul-one, suc-mul, mul-add, add-mul, mul-comm, mul-le-mul-right, lt-of-mul-lt-mul-right}
+use native.Mathlib.Nat.{zero-mul, add-sub-cancel-left, mul-one, suc-mul, mul-add, add-mul, mul-assoc, mul-comm, mul-left-comm, mul-le-mul-right, lt-of-mul-lt-mul-right}
 use native.Mathlib.Numerals.{add-one}
 use mathlib.Core.List.{_++_}
-use lib.ListN.{length, getD, set, take, drop, length-set, length-take, length-drop, List·getD-append}
+use lib.ListN.{length, getD, set, take, drop, length-set, length-take, length-drop, length-append, List·getD-append}
 use lib.Seq.{getD-set-same, getD-set-other, getD-append-add, getD-take, getD-drop, length-take-le}
 use borrow.Rule.Slice.PartMut.{midOf, postOf, putMid, same-len-mid, take-put, drop-put}
 use Rattle.grid.specs.Grid.{Grid, point, Inside}
 use Rattle.grid.specs.Legal.{Wiring, index, wiringOf}
 use Rattle.grid.proofs.Buffer.{index-is}
-use Rattle.paint.specs.Paint.{Striped, Painted, Starts, Drawn}
+use Rattle.paint.specs.Paint.{Striped, Painted, Starts, Block, Drawn}
 
 -- ---- byte by byte: the first i bytes are f
 
@@ -209,6 +209,74 @@ rest-values j values h = omega (arith, mid-long j (length values - j) values (om
 
 pub rest-value : (j z : ℕ) (values : List ℕ) → z < length (midOf j (length values - j) values) → getD (midOf j (length values - j) values) z 0 ≡ getD values (j + z) 0
 rest-value j z values h = getD-take (length values - j) (drop j values) z 0 (omega (arith, length-take (length values - j) (drop j values))) ∙ getD-drop j values z 0
+
+-- ---- eight rows at a time
+
+pub block-long : (n : ℕ) (block : List ℕ) → n ≤ 90 → length block ≡ 720 → length (take (8 * n) block) ≡ 8 * n
+block-long n block few long = length-take-le (8 * n) block (omega arith)
+
+-- an array whose first bytes are lent, striped by row and handed back
+pub block-made : {ys row : List ℕ} (blank : List ℕ) → length row ≤ 90 → length blank ≡ 720
+    → Striped (take (8 * length row) blank) ys (length row) 8 (λ i j. getD row i 0) → Block (ys ++ drop (8 * length row) blank) row
+block-made {ys} {row} blank few size s = record {
+  long = length-append ys rest ∙ omega (arith, many, length-drop (8 * length row) blank);
+  here = λ i j hi hj. List·getD-append ys rest 0 (j * length row + i) (omega (arith, inside (length row) 8 i j hi hj, many)) ∙ s .here i j hi hj;
+}
+  where
+    rest : List ℕ
+    rest = drop (8 * length row) blank
+
+    many : length ys ≡ 8 * length row
+    many = s .long ∙ block-long (length row) blank few size
+
+pub blocks-fit : (n w : ℕ) → 8 * n * (w / 8) ≤ n * w
+blocks-fit n w =
+    let h : 8 * (w / 8) ≤ w = omega arith in
+    omega (arith, mul-le-mul-right n h, mul-assoc 8 (w / 8) n, mul-assoc 8 n (w / 8), mul-comm n (w / 8), mul-comm w n)
+
+-- rows of the block's first bytes are rows of row, and w / 8 rows of the block are 8 * (w / 8) rows of row
+module _ {row block : List ℕ} (few : length row ≤ 90) (b : Block block row) where
+  pub first-long : length (take (length row) block) ≡ length row
+  first-long = length-take-le (length row) block (omega (arith, b .long))
+
+  pub first-rows : {before after : List ℕ} {w : ℕ} → Striped before after (length (take (length row) block)) w (λ i j. getD (take (length row) block) i 0)
+      → Striped before after (length row) w (λ i j. getD row i 0)
+  first-rows s = striped-as first-long
+      (λ i j hi hj. getD-take (length row) block i 0 hi ∙ ap (λ (u : ℕ). getD block u 0) (omega (arith, zero-mul (length row))) ∙ b .here i 0 hi (omega arith)) s
+
+  pub blocks-long : (w : ℕ) (part : List ℕ) → length part ≡ length row * w
+      → length (midOf 0 (8 * length row * (w / 8) - 0) part) ≡ length (take (8 * length row) block) * (w / 8)
+  blocks-long w part size =
+      let e : 8 * length row * (w / 8) - 0 ≡ 8 * length row * (w / 8) = omega arith in
+      mid-long 0 (8 * length row * (w / 8) - 0) part (omega (arith, blocks-fit (length row) w)) ∙ e
+      ∙ sym (ap (λ (u : ℕ). u * (w / 8)) (block-long (length row) block few (b .long)))
+
+  pub above-blocks : {part ys : List ℕ} {w : ℕ} → length part ≡ length row * w
+      → Striped (midOf 0 (8 * length row * (w / 8) - 0) part) ys (length (take (8 * length row) block)) (w / 8) (λ i j. getD (take (8 * length row) block) i 0)
+      → Above part (putMid 0 (8 * length row * (w / 8) - 0) part ys) (length row) w (8 * (w / 8)) (8 * length row * (w / 8)) (λ i j. getD row i 0)
+  above-blocks {part} {ys} {w} size s = record {
+    start = omega (arith, mul-assoc 8 n (w / 8), mul-assoc 8 (w / 8) n, mul-comm n (w / 8));
+    size = size;
+    within = omega arith;
+    rows = record {
+      long = p .long;
+      here = λ i j hi hj.
+          let e : (8 * (j / 8) + j % 8) * n ≡ j * n = ap (λ (u : ℕ). u * n) (omega arith) in
+          let h : j % 8 * n + i < 8 * n = omega (arith, inside n 8 i (j % 8) hi (omega arith)) in
+          ap (λ (u : ℕ). getD after u 0) (omega (arith, add-mul (8 * (j / 8)) (j % 8) n, mul-assoc 8 (j / 8) n, mul-left-comm (j / 8) 8 n))
+          ∙ p .here (j % 8 * n + i) (j / 8) h (omega arith) ∙ b .here i (j % 8) hi (omega arith);
+    };
+  }
+    where
+      n : ℕ
+      n = length row
+
+      after : List ℕ
+      after = putMid 0 (8 * n * (w / 8) - 0) part ys
+
+      p : Painted part after 0 (8 * n) (w / 8) (λ i j. getD block i 0)
+      p = put-striped {k = 8 * n * (w / 8) - 0} part ys (omega arith) (omega (arith, blocks-fit n w))
+          (striped-as (block-long n block few (b .long)) (λ i j hi hj. getD-take (8 * n) block i 0 hi) s)
 
 -- ---- a layer that is lent, striped and handed back
 

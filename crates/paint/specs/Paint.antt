@@ -3,6 +3,7 @@
 --   Striped before after n w f        a part of w rows of n bytes: row j's byte i is f i j
 --   Painted before after from n w f   the same of the part that starts at `from`, and every other byte is as it was
 --   Starts row values                 the row's first bytes are the values, at most 90
+--   Block block row                   the block's first bytes are eight copies of the row, at most 90 bytes long
 --   Drawn n w before after top x      layers 1 to top, of n × w bytes each, hold the wiring x, and every byte past them is as it was
 use Prim.Native.Nat.{ℕ, suc, _+_, _*_, _≤_, _<_}
 use mathlib.Core.Path.{_≡_}
@@ -23,6 +24,10 @@ pub record Painted (before after : List ℕ) (from n w : ℕ) (f : ℕ → ℕ �
 pub record Starts (row values : List ℕ) : Type 0 where
   pub long : length row ≡ 90
   pub here : (i : ℕ) → i < length values → getD row i 0 ≡ getD values i 0
+
+pub record Block (block row : List ℕ) : Type 0 where
+  pub long : length block ≡ 720
+  pub here : (i j : ℕ) → i < length row → j < 8 → getD block (j * length row + i) 0 ≡ getD row i 0
 
 pub record Drawn (n w : ℕ) (before after : List ℕ) (top : ℕ) (x : Wiring) : Type 0 where
   pub long : length after ≡ length before

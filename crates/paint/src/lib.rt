@@ -3,7 +3,7 @@
 ghost use mathlib.Core.Path.{_≡_};
 ghost use Prim.Native.Nat.{_+_, _*_, _≤_};
 ghost use lib.ListN.{length, getD};
-ghost use Rattle.paint.specs.Paint.{Striped, Painted, Starts};
+ghost use Rattle.paint.specs.Paint.{Striped, Painted, Starts, Block};
 
 // Each byte of the part is v.
 fn fill(part: &mut [u8], v: u8)
@@ -66,6 +66,36 @@ fn narrow_rows(part: &mut [u8], row: &[u8], n: usize, w: usize)
     rows(&mut part[from..len], &row[..n], w - j);
 }
 
+// Eight copies of row, which has at most 90 bytes.
+fn eight_copies(row: &[u8]) -> [u8; 720]
+    requires { ⌜ length (now row) ≤ 90 ⌝ }
+    ensures { λ r. ⌜ Block r (now (row .entry)) ⌝ }
+{
+    let mut block: [u8; 720] = [0; 720];
+    let count = 8 * row.len();
+    rows(&mut block[..count], row, 8);
+    block
+}
+
+// Of w rows each is a copy of row, which has at most 90 bytes. From 16 rows on eight are copied at once, and the last w % 8 one by one.
+fn wide_rows(part: &mut [u8], row: &[u8], w: usize)
+    requires { ⌜ (length (now row) ≤ 90) × (length (now part) ≡ length (now row) * w) ⌝ }
+    ensures { λ _. ⌜ Striped (now (part .entry)) (now (part .exit)) (length (now (row .entry))) w (λ i j. getD (now (row .entry)) i 0) ⌝ }
+{
+    if w < 16 {
+        rows(part, row, w);
+        return;
+    }
+    let n = row.len();
+    let blocks = w / 8;
+    let from = 8 * n * blocks;
+    let len = part.len();
+    let block = eight_copies(row);
+    let b = &block[..];
+    rows(&mut part[0..from], &b[..8 * n], blocks);
+    rows(&mut part[from..len], &b[..n], w - 8 * blocks);
+}
+
 // Of w tracks each is a copy of values, so that column i is values[i - 1] from end to end. The compiler knows that an array
 // held here is apart from the part, and copies its rows without a test.
 fn columns(part: &mut [u8], values: &[u8], w: usize)
@@ -87,7 +117,7 @@ fn columns(part: &mut [u8], values: &[u8], w: usize)
         narrow_rows(part, r, n, w);
         return;
     }
-    rows(part, &r[..n], w);
+    wide_rows(part, &r[..n], w);
 }
 
 // Row j is values[j - 1] in each of its n bytes.
