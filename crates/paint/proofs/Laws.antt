@@ -1,4 +1,4 @@
--- Laws of painting: byte by byte, row by row, in the middle of a buffer, and layer by layer.
+-- Laws of painting: byte by byte, in the middle of a buffer, row by row, eight rows at a time, and layer by layer.
 use Prim.Native.Nat.{ℕ, zero, suc, _+_, _*_, _-_, _/_, _%_, _≤_, _<_}
 use mathlib.Core.Path.{_≡_, refl, sym, ap, ap₂, subst, _∙_}
 use mathlib.Core.Logic.{inl, inr, ⊎-elim, by-cases}

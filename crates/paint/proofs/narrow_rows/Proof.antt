@@ -74,7 +74,8 @@ loop-again : tie.Need-loop-again Inv-loop μ-loop
 loop-again c =
     let c6 = c .before .before .before .before .before .before in
     let c9 = c6 .before .before .before in
-    above-step _ _ (omega (arith, c9 .pre)) (omega arith) (above-left (omega arith) (c6 .loop .inv)) (λ i h. getD-take 16 (c9 .args .row .now) i 0 (omega (arith, c9 .pre))) (c6 .loop .inv) (c .before .before .copy .ensures)
+    above-step _ _ (omega (arith, c9 .pre)) (omega arith) (above-left (omega arith) (c6 .loop .inv))
+    (λ i h. getD-take 16 (c9 .args .row .now) i 0 (omega (arith, c9 .pre))) (c6 .loop .inv) (c .before .before .copy .ensures)
 
 -- src/lib.rt:66:10
 sub-rows : tie.Need-sub-rows Inv-loop μ-loop
@@ -90,7 +91,9 @@ part-rows-end c = omega (arith, above-within (c .before .loop .inv), c .before .
 
 -- src/lib.rt:66:32
 slice-aggregate-rows : tie.Need-slice-aggregate-rows Inv-loop μ-loop
-slice-aggregate-rows c = sym (row-size (c .before .before .before .before .before .before .args .row .now) (c .before .before .before .before .before .before .pre .0) (c .before .before .before .before .before .before .pre .1))
+slice-aggregate-rows c =
+    let c6 = c .before .before .before .before .before .before in
+    sym (row-size (c6 .args .row .now) (c6 .pre .0) (c6 .pre .1))
 
 -- src/lib.rt:66:43
 sub-rows-2 : tie.Need-sub-rows-2 Inv-loop μ-loop
@@ -101,7 +104,8 @@ rows-requires : tie.Need-rows-requires Inv-loop μ-loop
 rows-requires c κs =
     let c3 = c .before .before .before in
     let c6 = c3 .before .before .before in
-    rest-long (c6 .args .w - c3 .loop .j) (omega (arith, c3 .loop .inv .within)) (c3 .loop .inv) ∙ sym (ap (λ (u : ℕ). u * (c6 .args .w - c3 .loop .j)) (row-size (c6 .args .row .now) (c6 .pre .0) (c6 .pre .1)))
+    let m = c6 .args .w - c3 .loop .j in
+    rest-long m (omega (arith, c3 .loop .inv .within)) (c3 .loop .inv) ∙ sym (ap (λ (u : ℕ). u * m) (row-size (c6 .args .row .now) (c6 .pre .0) (c6 .pre .1)))
 
 -- src/lib.rt:54:1
 same-length : tie.Need-same-length Inv-loop μ-loop
@@ -113,7 +117,8 @@ returns c =
     let c6 = c .before .before .before .before .before .before in
     let c9 = c6 .before .before .before in
     let row = c9 .args .row .now in
-    above-rest _ (omega (arith, c6 .loop .inv .within)) (c6 .loop .inv) (striped-as (row-size row (c9 .pre .0) (c9 .pre .1)) (λ i z hi hz. getD-take (c9 .args .n) row i 0 hi) (c .before .before .rows .ensures))
+    above-rest _ (omega (arith, c6 .loop .inv .within)) (c6 .loop .inv)
+    (striped-as (row-size row (c9 .pre .0) (c9 .pre .1)) (λ i z hi hz. getD-take (c9 .args .n) row i 0 hi) (c .before .before .rows .ensures))
 
 pub narrow-rows-spec : {M : Type 1} → statement M
 narrow-rows-spec =

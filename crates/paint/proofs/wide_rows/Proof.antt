@@ -87,7 +87,9 @@ part-rows-end-2 c = search needs
 
 -- src/lib.rt:96:32
 slice-aggregate-rows-2 : tie.Need-slice-aggregate-rows-2
-slice-aggregate-rows-2 c = sym (first-long (c .before .before .before .before .before .before .before .before .before .before .before .before .pre .0) (c .before .before .before .before .before .before .before .before .eight-copies .ensures))
+slice-aggregate-rows-2 c =
+    let c8 = c .before .before .before .before .before .before .before .before in
+    sym (first-long (c8 .before .before .before .before .pre .0) (c8 .eight-copies .ensures))
 
 -- src/lib.rt:96:45
 mul-rows-2 : tie.Need-mul-rows-2
@@ -112,9 +114,11 @@ same-length-2 c = search needs
 -- src/lib.rt:81:1
 returns-2 : tie.Need-returns-2
 returns-2 c =
-    let b = c .before .before .before .before .before .before .before .before .before .before .before .eight-copies .ensures in
-    let pre = c .before .before .before .before .before .before .before .before .before .before .before .before .before .before .before .pre in
-    above-rest _ (omega arith) (above-blocks (pre .0) b (pre .1) (c .before .before .before .before .before .before .before .rows2 .ensures)) (first-rows (pre .0) b (c .before .before .rows3 .ensures))
+    let c7 = c .before .before .before .before .before .before .before in
+    let c11 = c7 .before .before .before .before in
+    let b = c11 .eight-copies .ensures in
+    let pre = c11 .before .before .before .before .pre in
+    above-rest _ (omega arith) (above-blocks (pre .0) b (pre .1) (c7 .rows2 .ensures)) (first-rows (pre .0) b (c .before .before .rows3 .ensures))
 
 pub wide-rows-spec : {M : Type 1} → statement M
 wide-rows-spec =
