@@ -13,7 +13,7 @@ use lib.Pow.{pow-mono, pow-pos, shr-shr}
 use lib.Count.{ones, ones-step, leadingZeros, leading-length}
 use borrow.Author.Tests.{le-leb, lt-leb, lt-ltb, le-ltb, eq-eqb, ne-eqb, leb-true}
 use Rattle.counting.specs.Counting.{bit, sum, count}
-use Rattle.counting.proofs.Sums.{split, bit-le, bit-one, bit-zero, sum-more}
+use Rattle.counting.proofs.Sums.{split, bit-le, bit-one, bit-zero, sum-more, sum-grows}
 use Rattle.counting.proofs.Counts.{count-le}
 use Rattle.ticket.proofs.Flags.{le-or-lt}
 use Rattle.ticket.specs.Format.{byte, isOn, stands, standing, mapBytes, goodMap, mapCount, pinNet}
@@ -24,7 +24,7 @@ use Rattle.ticket.specs.Format.{byte, isOn, stands, standing, mapBytes, 
 abbrev low : ℕ → ℕ → ℕ
 low b d = count (λ a. isOn b (a - 1)) d
 
-bit-mod : (x : ℕ) → bit (eqb (x % 2) 1) ≡ x % 2
+pub bit-mod : (x : ℕ) → bit (eqb (x % 2) 1) ≡ x % 2
 bit-mod x =
     by-cases (ℕ-discrete (x % 2) 1)
     (λ e. bit-one (eq-eqb (x % 2) 1 e) ∙ sym e)
@@ -155,6 +155,10 @@ standing-one s from i e = sum-more (λ a. bit (stands s from a)) i ∙ ap (λ (x
 
 pub standing-none : (s : List ℕ) (from i : ℕ) → stands s from (i + 1) ≡ false → standing s from (i + 1) ≡ standing s from i
 standing-none s from i e = sum-more (λ a. bit (stands s from a)) i ∙ ap (λ (x : ℕ). standing s from i + x) (bit-zero e) ∙ add-zero _
+
+-- a place that stands counts
+pub standing-below : (s : List ℕ) (from p i : ℕ) → i < p → stands s from (i + 1) ≡ true → standing s from i < standing s from p
+standing-below s from p i h t = omega (arith, standing-one s from i t, sum-grows (λ a. bit (stands s from a)) (i + 1) p (omega arith))
 
 pub standing-le : (s : List ℕ) (from i : ℕ) → standing s from i ≤ i
 standing-le s from i = count-le (stands s from) i

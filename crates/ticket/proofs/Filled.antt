@@ -1,9 +1,9 @@
 -- An array that a loop fills from the front: f at the places passed, and 0 past them.
 use Prim.Native.Nat.{ℕ, zero, suc, _+_, _≤_, _<_}
-use mathlib.Core.List.{List}
+use mathlib.Core.List.{List, _∷_}
 use mathlib.Core.Logic.{⊎-elim}
-use mathlib.Core.Path.{_≡_, refl, sym, ap, _∙_}
-use native.Mathlib.Nat.{add-zero, add-suc, suc-add, not-suc-le-zero, le-of-suc-le-suc, le-refl}
+use mathlib.Core.Path.{_≡_, refl, sym, ap, ap₂, _∙_}
+use native.Mathlib.Nat.{add-zero, add-suc, suc-add, not-suc-le-zero, le-of-suc-le-suc}
 use native.Mathlib.Omega.{arith}
 use lib.ListN.{length, getD, set, replicate, length-set, length-replicate, getD-replicate, List·getD-eq-default}
 use lib.Seq.{ext-getD, getD-set-same, getD-set-other}
@@ -56,15 +56,6 @@ module _ (f : ℕ → ℕ) (n : ℕ) where
         rest = λ k le. getD-set-other l i k v 0 (λ q. omega arith) ∙ w .rest k (omega arith);
       }
 
-  -- f (i + 1) is 0: nothing to store
-  pub filled-skip : (i : ℕ) (l : List ℕ) → f (i + 1) ≡ 0 → Filled f n i l → Filled f n (i + 1) l
-  filled-skip i l e w =
-      record {
-        size = w .size;
-        done = below-more (λ k. getD l k 0 ≡ f (k + 1)) i (w .done) (w .rest i (le-refl i) ∙ sym e);
-        rest = λ k le. w .rest k (omega arith);
-      }
-
   -- f is 0 past i: the array lists f
   pub filled-end : (i : ℕ) (l : List ℕ) → ((a : ℕ) → i < a → f a ≡ 0) → Filled f n i l → l ≡ listed f 1 n
   filled-end i l z w =
@@ -73,3 +64,8 @@ module _ (f : ℕ → ℕ) (n : ℕ) where
       let one : 1 + k ≡ k + 1 = omega arith in
       ⊎-elim (λ le. w .rest k le ∙ sym (z (k + 1) (omega arith))) (λ less. w .done k less) (le-or-lt i k)
       ∙ sym (getD-listed f 1 n k (rw (w .size) at lt) ∙ ap f one))
+
+pub listed-same : (f g : ℕ → ℕ) (n i : ℕ) → ((a : ℕ) → i ≤ a → a < i + n → f a ≡ g a) → listed f i n ≡ listed g i n
+unfolding listed
+listed-same f g zero i e = refl
+listed-same f g (suc n) i e = ap₂ (λ x l. x ∷ l) (e i (omega arith) (omega arith)) (listed-same f g n (suc i) (λ a h lt. e a (omega arith) (omega arith)))

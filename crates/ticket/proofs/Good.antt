@@ -12,14 +12,14 @@ use native.Mathlib.Omega.{arith}
 use lib.Dec.{leb, eqb}
 use lib.ListN.{length}
 use borrow.Author.Tests.{eqb-true, eqb-false, eq-eqb, ne-eqb}
-use Rattle.counting.specs.Counting.{In, bit}
-use Rattle.counting.proofs.Sums.{split, sum-grows}
+use Rattle.counting.specs.Counting.{In}
+use Rattle.counting.proofs.Sums.{split}
 use Rattle.grid.specs.Grid.{Grid, Side, north, south, west, east, places, upright}
 use Rattle.grid.specs.Legal.{Pins as GridPins, topNet, row, channel, box, entry}
 use Rattle.grid.specs.View.{longestSide}
 use Rattle.grid.proofs.Pins.{Bare}
 use Rattle.ticket.proofs.Flags.{le-or-lt}
-use Rattle.ticket.proofs.Bits.{standing-one, pin-stands, pin-empty, pin-past, pin-off}
+use Rattle.ticket.proofs.Bits.{standing-below, pin-stands, pin-empty, pin-past, pin-off}
 use Rattle.ticket.proofs.Filled.{length-listed, entry-listed, entry-past}
 use Rattle.ticket.proofs.Seconds.{second}
 use Rattle.ticket.proofs.Spans.{side-read, side-before}
@@ -52,15 +52,12 @@ nets-small s (suc k) i zero e h = let q : i + 0 ≡ i = omega arith in rw q (net
 nets-small s (suc k) i (suc j) e h = let q : i + suc j ≡ i + 1 + j = omega arith in rw q (nets-small s k (i + 1) j (nets-good s k i e .2) (omega arith))
 
 module _ (s : List ℕ) (from p : ℕ) (e : netsOf s (from + mapBytes p) (standing s from p) .number ≡ 0) where
-  standing-below : (i : ℕ) → i < p → stands s from (i + 1) ≡ true → standing s from i < standing s from p
-  standing-below i h t = omega (arith, standing-one s from i t, sum-grows (λ a. bit (stands s from a)) (i + 1) p (omega arith))
-
   pin-small : (i : ℕ) → pinNet s true from p (i + 1) ≤ topNet
   pin-small i =
       ⊎-elim (λ le. omega (arith, pin-past s true from p (i + 1) (omega arith)))
       (λ lt.
       split (stands s from (i + 1))
-      (λ t. rw (pin-stands s from p i lt t) (nets-small s (standing s from p) (from + mapBytes p) (standing s from i) e (standing-below i lt t)))
+      (λ t. rw (pin-stands s from p i lt t) (nets-small s (standing s from p) (from + mapBytes p) (standing s from i) e (standing-below s from p i lt t)))
       (λ t. omega (arith, pin-empty s true from p (i + 1) t)))
       (le-or-lt p i)
 

@@ -3,6 +3,7 @@ pub mod Bits
 pub mod Filled
 pub mod Tallies
 pub mod Laws
+pub mod Placed
 pub mod Spans
 pub mod Seconds
 pub mod Good

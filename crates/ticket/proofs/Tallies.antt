@@ -10,6 +10,7 @@ use lib.ListN.{length, getD, set, length-set}
 use lib.Seq.{getD-set-same, getD-set-other}
 use borrow.Author.Tests.{eq-eqb, ne-eqb}
 use Rattle.counting.specs.Counting.{bit}
+use Rattle.counting.proofs.Counts.{count-le}
 use Rattle.counting.proofs.Sums.{sum-none, sum-more}
 use Rattle.ticket.specs.Format.{byte, times}
 
@@ -48,3 +49,7 @@ tally-more {c₀} {s} {c} {from} {i} le small w =
             ap (λ (x : ℕ). bit (eqb (byte s x) v)) here,
           );
     }
+
+-- one more for each byte passed, at most
+pub tally-le : {c₀ s c : List ℕ} {from k : ℕ} → Tally c₀ s from k c → (v : ℕ) → v < 256 → getD c v 0 ≤ getD c₀ v 0 + k
+tally-le {s = s} {from = from} {k = k} w v h = omega (arith, w .counts v h, count-le (λ j. eqb (byte s (from + (j - 1))) v) k)

@@ -14,6 +14,7 @@
 --                        place is empty or the side does not stand (on)
 --   listed f i k         f i, f (i + 1), .., k of them
 --   sideNets s on from p the nets of a side's places as 90 numbers
+--   netList s from k     not part of the definition, but what net_list answers: the k bytes from byte from on, and 0 past them, as 90 numbers
 --   pinsIn ps            the four lists as the grid's pins
 --   pinCountOn p m s, pinCount p m
 --                        how many pins hold net m, on side s and on all
@@ -71,6 +72,9 @@ listed f i (suc k) = f i ∷ listed f (suc i) k
 
 unfoldable pub sideNets : List ℕ → Bool → ℕ → ℕ → List ℕ
 sideNets s on from p = listed (pinNet s on from p) 1 longestSide
+
+unfoldable pub netList : List ℕ → ℕ → ℕ → List ℕ
+netList s from k = listed (λ a. cond (leb a k) (byte s (from + (a - 1))) 0) 1 longestSide
 
 abbrev pub pinsIn : Pins → GridPins
 pinsIn ps = pinsOf (ps .north) (ps .south) (ps .west) (ps .east)

@@ -7,11 +7,9 @@ ghost use Prim.Native.Nat.{ℕ, _+_, _-_, _*_, _/_, _^_, _≤_, _<_};
 ghost use lib.ListN.{length, getD};
 ghost use lib.Dec.{leb, eqb};
 ghost use mathlib.Core.Bool.{true, false, cond, _&&_};
-ghost use Rattle.grid.specs.Grid.{Side, north, south, west, east};
-ghost use Rattle.grid.specs.Legal.{entry, topNet};
-ghost use Rattle.grid.specs.View.{within};
+ghost use Rattle.grid.specs.Legal.{topNet};
 ghost use Rattle.counting.specs.Counting.{In, count};
-ghost use Rattle.ticket.specs.Format.{byte, largestByte2, largestSideMap, isOn, standing, mapBytes, goodMap, mapCount, sideNets, netCount, pinCount, pinsIn, times, least};
+ghost use Rattle.ticket.specs.Format.{largestByte2, largestSideMap, isOn, standing, mapBytes, mapCount, sideNets, pinCount, pinsIn, times, netList, least};
 ghost use Rattle.ticket.specs.Read.{refusal, goOn, unless, fieldsOf, headerOf, netsOf, sideOf, after, endsOf, pinsAt, leftOver, noLone, Header, Spans, Sides, refusedTicket, acceptedTicket, judged, ticketOf, readOf};
 
 pub const MOST_TRUNK_LAYERS: usize = 8;
@@ -125,13 +123,6 @@ fn header(ticket: &[u8]) -> Cursor
         return refuse(1, size);
     }
     fields(ticket[0], ticket[1], ticket[2], ticket[3])
-}
-
-// Byte i of the ticket, 0 past its end.
-fn byte_at(ticket: &[u8], i: usize) -> u8
-    ensures { λ r. ⌜ r ≡ byte (now (ticket .entry)) i ⌝ }
-{
-    if i < ticket.len() { ticket[i] } else { 0 }
 }
 
 fn bit_of(b: u8, k: usize) -> bool
@@ -285,40 +276,39 @@ fn sides(ticket: &[u8]) -> Ends
     }
 }
 
-// The nets of a side whose map starts at byte `at`, place by place.
-fn side_nets(ticket: &[u8], at: usize, places: usize) -> [u8; 90]
-    requires { ⌜ (places ≤ 90) × (at ≤ length (now ticket)) ⌝ }
-    ensures { λ r. ⌜ r ≡ sideNets (now (ticket .entry)) true at places ⌝ }
+// The net bytes of a side in rising order of place, and 0 past them.
+fn net_list(ticket: &[u8], from: usize, count: usize) -> [u8; 90]
+    requires { ⌜ (count ≤ 90) × (from + count ≤ length (now ticket)) ⌝ }
+    ensures { λ r. ⌜ r ≡ netList (now (ticket .entry)) from count ⌝ }
 {
     let mut list = [0u8; 90];
-    let mut next = at + (places + 7) / 8;
     let mut i: usize = 0;
-    while i < places {
-        if bit_of(byte_at(ticket, at + i / 8), i % 8) {
-            list[i] = byte_at(ticket, next);
-            next += 1;
-        }
-        i += 1;
-    }
-    list
-}
-
-// The nets of a side with a pin at each place: they lie in the ticket as they are listed.
-fn full_side(ticket: &[u8], at: usize, places: usize) -> [u8; 90]
-    requires { ⌜ (places ≤ 90) × (standing (now ticket) at places ≡ places) × (at + mapBytes places + places ≤ length (now ticket)) ⌝ }
-    ensures { λ r. ⌜ r ≡ sideNets (now (ticket .entry)) true at places ⌝ }
-{
-    let mut list = [0u8; 90];
-    let from = at + (places + 7) / 8;
-    let mut i: usize = 0;
-    while i < places {
+    while i < count {
         list[i] = ticket[from + i];
         i += 1;
     }
     list
 }
 
-// The nets of a side from byte `at` to byte `end`; its bytes are as many as its map's and its places where it has a pin at each place.
+// The nets of a side whose map starts at byte `at`, each at its place. It does not branch on the map's bits, which nothing foretells.
+fn side_nets(ticket: &[u8], at: usize, count: usize, places: usize) -> [u8; 90]
+    requires { ⌜ (places ≤ 90) × (count ≡ standing (now ticket) at places) × (at + mapBytes places + count ≤ length (now ticket)) ⌝ }
+    ensures { λ r. ⌜ r ≡ sideNets (now (ticket .entry)) true at places ⌝ }
+{
+    let nets = net_list(ticket, at + (places + 7) / 8, count);
+    let mut list = [0u8; 90];
+    let mut next: usize = 0;
+    let mut i: usize = 0;
+    while i < places {
+        let on = (ticket[at + i / 8] >> (i % 8)) % 2;
+        list[i] = nets[next] * on;
+        next += on as usize;
+        i += 1;
+    }
+    list
+}
+
+// The nets of a side from byte `at` to byte `end`. Where it has a pin at each place, its net bytes are that list.
 fn side_list(ticket: &[u8], stands: bool, at: usize, end: usize, places: usize) -> [u8; 90]
     requires { ⌜ (places ≤ 90) × Spans (now ticket) stands at places end ⌝ }
     ensures { λ r. ⌜ r ≡ sideNets (now (ticket .entry)) stands at places ⌝ }
@@ -326,10 +316,12 @@ fn side_list(ticket: &[u8], stands: bool, at: usize, end: usize, places: usize) 
     if !stands {
         return [0u8; 90];
     }
-    if end - at == (places + 7) / 8 + places {
-        return full_side(ticket, at, places);
+    let from = at + (places + 7) / 8;
+    let count = end - from;
+    if count == places {
+        return net_list(ticket, from, count);
     }
-    side_nets(ticket, at, places)
+    side_nets(ticket, at, count, places)
 }
 
 // The nets of all sides, once their ends are known.

@@ -1,13 +1,15 @@
--- `ticket::side_list` meets its contract: a side that does not stand is empty, one that is full lies as it is listed, any other is read place by place.
+-- `ticket::side_list` meets its contract: a side that does not stand is empty, one that is full lies as it is listed, any other has its nets put at their places.
+use Prim.Native.Nat.{_+_}
 use mathlib.Core.Bool.{Bool}
-use mathlib.Core.Path.{sym, ap, _∙_}
+use mathlib.Core.Path.{_≡_, sym, ap, _∙_}
 use native.Mathlib.Omega.{arith}
 use denote.Ref.{now}
 use borrow.Author.Tests.{not-true, not-false}
 use borrow.Author.Needs.{needs}
-use Rattle.ticket.specs.Format.{pinNet, sideNets}
+use Rattle.ticket.specs.Format.{standing, mapBytes, pinNet, sideNets, netList}
 use Rattle.ticket.proofs.Bits.{pin-off}
 use Rattle.ticket.proofs.Filled.{filled-none, filled-end}
+use Rattle.ticket.proofs.Placed.{full-list}
 use Rattle.ticket.proofs.side_list.Statement.{statement}
 use Rattle.ticket.proofs.side_list.Tie as tie
 
@@ -18,29 +20,33 @@ returns c =
     let off = not-true (a .stands) (c .if1 .taken) in
     filled-end (pinNet (now (a .ticket)) (a .stands) (a .at) (a .places)) 90 0 _ (λ k h. ap (λ (b : Bool). pinNet (now (a .ticket)) b (a .at) (a .places) k) off ∙ pin-off _ _ _ _) (filled-none _ 90)
 
-sub-if2 : tie.Need-sub-if2
-sub-if2 c = omega (arith, c .before .before .pre .1 .start)
+add-from : tie.Need-add-from
+add-from c = search needs
 
-add-if2 : tie.Need-add-if2
-add-if2 c = search needs
+add-from-2 : tie.Need-add-from-2
+add-from-2 c = omega (arith, c .before .before .pre .1 .start, c .before .before .pre .1 .size)
 
-add-if2-2 : tie.Need-add-if2-2
-add-if2-2 c = search needs
+-- the side stands: it ends past its map and its nets
+end : (c : tie.Else1) → let a = c .before .before .args in a .end ≡ a .at + mapBytes (a .places) + standing (now (a .ticket)) (a .at) (a .places)
+end c = c .before .before .pre .1 .stands (not-false (c .before .before .args .stands) (c .if1 .left))
 
-full-side-requires : tie.Need-full-side-requires
-full-side-requires c κs =
-    let h = c .before .before .before .pre in
-    let on = not-false (c .before .before .before .args .stands) (c .before .if1 .left) in
-    let end = h .1 .stands on in
-    (h .0, omega (arith, c .if2 .taken), omega (arith, c .if2 .taken, h .1 .size))
+sub-count : tie.Need-sub-count
+sub-count c = omega (arith, end c)
+
+net-list-requires : tie.Need-net-list-requires
+net-list-requires c κs = let h = c .before .before .before .pre in (omega (arith, c .if2 .taken, h .0), omega (arith, h .1 .size, end (c .before)))
 
 returns-2 : tie.Need-returns-2
 returns-2 c =
     let a = c .before .before .before .before .args in
-    c .full-side .ensures ∙ ap (λ (b : Bool). sideNets (now (a .ticket)) b (a .at) (a .places)) (sym (not-false (a .stands) (c .before .before .if1 .left)))
+    let s = now (a .ticket) in
+    let from = a .at + mapBytes (a .places) in
+    let full = c .before .if2 .taken in
+    c .net-list .ensures ∙ ap (netList s from) full ∙ full-list s (a .at) (a .places) (omega (arith, full, end (c .before .before)))
+    ∙ ap (λ (b : Bool). sideNets s b (a .at) (a .places)) (sym (not-false (a .stands) (c .before .before .if1 .left)))
 
 side-nets-requires : tie.Need-side-nets-requires
-side-nets-requires c κs = let h = c .before .before .before .pre in (h .0, omega (arith, h .1 .start, h .1 .size))
+side-nets-requires c κs = let h = c .before .before .before .pre in (h .0, omega (arith, end (c .before)), omega (arith, h .1 .size, end (c .before)))
 
 returns-3 : tie.Need-returns-3
 returns-3 c =
@@ -52,10 +58,10 @@ side-list-spec =
     tie.close
     (tie.spec
     returns
-    sub-if2
-    add-if2
-    add-if2-2
-    full-side-requires
+    add-from
+    add-from-2
+    sub-count
+    net-list-requires
     returns-2
     side-nets-requires
     returns-3)

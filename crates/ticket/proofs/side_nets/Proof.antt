@@ -1,51 +1,89 @@
--- `ticket::side_nets` meets its contract: the array is filled with the nets of the places passed, and the next net byte lies past their standing ones.
-use Prim.Native.Nat.{ℕ, _+_, _-_, _%_, _≤_}
+-- `ticket::side_nets` meets its contract: the array is filled with the nets of the places passed, and the next net is past their standing ones.
+use Prim.Native.Nat.{ℕ, _+_, _-_, _*_, _/_, _%_, _^_, _≤_}
 use mathlib.Core.Bool.{true}
-use mathlib.Core.Logic.{⊎-elim}
-use mathlib.Core.Path.{_≡_, sym, ap, _∙_}
+use mathlib.Core.List.{List}
+use mathlib.Core.Path.{_≡_, sym, ap, ap₂, _∙_}
 use native.Mathlib.Omega.{arith}
 use denote.Ref.{now}
+use lib.ListN.{getD}
+use mir.Syntax.{w8}
+use mir.Val.{Fits}
 use borrow.Author.Needs.{needs}
 use Rattle.counting.specs.Counting.{bit}
 use Rattle.counting.proofs.Sums.{sum-none}
-use Rattle.ticket.specs.Format.{isOn, stands, byte, standing, mapBytes, pinNet, sideNets}
-use Rattle.ticket.proofs.Bits.{standing-one, standing-none, standing-le, pin-stands, pin-empty, pin-past, at-place}
-use Rattle.ticket.proofs.Filled.{Filled, filled-none, filled-set, filled-skip, filled-end}
+use Rattle.ticket.specs.Format.{byte, stands, standing, mapBytes, pinNet, sideNets, netList}
+use Rattle.ticket.proofs.Bits.{standing-le, pin-past}
+use Rattle.ticket.proofs.Filled.{Filled, filled-none, filled-set, filled-end}
+use Rattle.ticket.proofs.Placed.{times-bit, place-bit, next-net, pin-product}
 use Rattle.ticket.proofs.side_nets.Statement.{statement}
 use Rattle.ticket.proofs.side_nets.Tie as tie
 
 abbrev Inv-loop : tie.InvT-loop
-Inv-loop ticket at places list₀ next₀ i₀ list next i = (i ≤ places) × (next ≡ at + mapBytes places + standing ticket at i) × Filled (pinNet ticket true at places) 90 i list
+Inv-loop ticket at count places nets list₀ next₀ i₀ list next i = (i ≤ places) × (next ≡ standing ticket at i) × Filled (pinNet ticket true at places) 90 i list
 
 abbrev μ-loop : tie.MeasureT-loop
-μ-loop ticket at places list₀ next₀ i₀ list next i = places - i
+μ-loop ticket at count places nets list₀ next₀ i₀ list next i = places - i
 
-add-next : tie.Need-add-next Inv-loop μ-loop
-add-next c = search needs
+-- the list's next net
+elem : (c : tie.After-shared-slice-known2 Inv-loop μ-loop) → Fits w8 (getD (c .before .before .before .net-list .result) (c .before .before .loop .next) 0)
+elem c = search needs
 
-add-next-2 : tie.Need-add-next-2 Inv-loop μ-loop
-add-next-2 c = search needs
+-- the bit of the place at hand
+on : (c : tie.After-shared-slice-known2 Inv-loop μ-loop) → let a = c .before .before .before .before .before .args in
+    let i = c .before .before .loop .i in
+    byte (now (a .ticket)) (a .at + i / 8) / 2 ^ (i % 8) % 2 ≡ bit (stands (now (a .ticket)) (a .at) (i + 1))
+on c =
+    let a = c .before .before .before .before .before .args in
+    place-bit (now (a .ticket)) (a .at) (a .places) (c .before .before .loop .i)
+
+-- past the standing places passed
+few : (c : tie.After-shared-slice-known2 Inv-loop μ-loop) → c .before .before .loop .next ≤ c .before .before .loop .i
+few c =
+    let a = c .before .before .before .before .before .args in
+    omega (arith, c .before .before .loop .inv .1, standing-le (now (a .ticket)) (a .at) (c .before .before .loop .i))
+
+add-net-list : tie.Need-add-net-list Inv-loop μ-loop
+add-net-list c = search needs
+
+add-net-list-2 : tie.Need-add-net-list-2 Inv-loop μ-loop
+add-net-list-2 c = search needs
+
+net-list-requires : tie.Need-net-list-requires Inv-loop μ-loop
+net-list-requires c κs = let a = c .before .args in (omega (arith, c .before .pre, standing-le (now (a .ticket)) (a .at) (a .places)), c .before .pre .2)
 
 loop-holds : tie.Need-loop-holds Inv-loop μ-loop
-loop-holds c = (omega arith, omega (arith, sum-none (λ k. bit (stands (now (c .before .args .ticket)) (c .before .args .at) k))), filled-none _ 90)
+loop-holds c = (omega arith, sym (sum-none (λ k. bit (stands (now (c .before .before .args .ticket)) (c .before .before .args .at) k))), filled-none _ 90)
 
-add-byte-at : tie.Need-add-byte-at Inv-loop μ-loop
-add-byte-at c = search needs
+add-on : tie.Need-add-on Inv-loop μ-loop
+add-on c = search needs
 
-byte-at-requires : tie.Need-byte-at-requires Inv-loop μ-loop
-byte-at-requires c κs = search needs
+shared-slice-read-on : tie.Need-shared-slice-read-on Inv-loop μ-loop
+shared-slice-read-on c = search needs
 
-bit-of-requires : tie.Need-bit-of-requires Inv-loop μ-loop
-bit-of-requires c κs = search needs
+cast-on : tie.Need-cast-on Inv-loop μ-loop
+cast-on c = search needs
 
-byte-at-requires-2 : tie.Need-byte-at-requires-2 Inv-loop μ-loop
-byte-at-requires-2 c κs = search needs
+shr-on : tie.Need-shr-on Inv-loop μ-loop
+shr-on c = search needs
+
+array-read-list : tie.Need-array-read-list Inv-loop μ-loop
+array-read-list c = omega (arith, few c)
+
+mul-list : tie.Need-mul-list Inv-loop μ-loop
+mul-list c =
+    let a = c .before .before .before .before .before .args in
+    let i = c .before .before .loop .i in
+    let m = getD (c .before .before .before .net-list .result) (c .before .before .loop .next) 0 in
+    omega (arith, elem c, ap (λ (x : ℕ). m * x) (on c), times-bit m (stands (now (a .ticket)) (a .at) (i + 1)))
 
 array-write-list : tie.Need-array-write-list Inv-loop μ-loop
 array-write-list c = search needs
 
-add-next-3 : tie.Need-add-next-3 Inv-loop μ-loop
-add-next-3 c = omega (arith, standing-le (now (c .before .before .before .before .before .before .before .args .ticket)) (c .before .before .before .before .before .before .before .args .at) (c .before .before .before .before .before .loop .i))
+cast-next : tie.Need-cast-next Inv-loop μ-loop
+cast-next c = search needs
+
+add-next : tie.Need-add-next Inv-loop μ-loop
+add-next c = omega (arith, few c)
 
 add-i : tie.Need-add-i Inv-loop μ-loop
 add-i c = search needs
@@ -55,30 +93,24 @@ loop-less c = search needs
 
 loop-again : tie.Need-loop-again Inv-loop μ-loop
 loop-again c =
-    let a = c .before .before .before .before .before .before .args in
+    let c5 = c .before .before .before .before .before in
+    let a = c5 .args in
     let s = now (a .ticket) in
-    let l = c .before .before .before .before .loop in
-    let lt = c .before .before .before .loop-test .taken in
-    let read = sym (c .before .bit-of .ensures ∙ ap (λ (b : ℕ). isOn b (l .i % 8)) (c .before .before .byte-at .ensures) ∙ sym (at-place s (a .at) (l .i))) in
-    ⊎-elim
-    (λ w.
-    let on = read ∙ w .0 .taken in (
+    let l = c .before .before .loop in
+    let h = c5 .pre in
+    let nets = c .before .before .before .net-list .ensures ∙ ap (netList s (a .at + mapBytes (a .places))) (h .1) in
+    let net = ap₂ (λ (x : List ℕ) (j : ℕ). getD x j 0) nets (l .inv .1) in (
       omega arith,
-      omega (arith, standing-one s (a .at) (l .i) on, w .3),
-      rw (w .2) (filled-set _ 90 (l .i) _ (l .list) (omega arith) (w .1 .ensures ∙ ap (byte s) (l .inv .1) ∙ sym (pin-stands s (a .at) (a .places) (l .i) lt on)) (l .inv .2)),
-    ))
-    (λ w.
-    let off = read ∙ w .0 .left in (
-      omega arith,
-      omega (arith, standing-none s (a .at) (l .i) off, w .2),
-      rw (w .1) (filled-skip _ 90 (l .i) (l .list) (pin-empty s true (a .at) (a .places) (l .i + 1) off) (l .inv .2)),
-    ))
-    (c .if1 .came)
+      omega (arith, l .inv .1, on c, next-net s (a .at) (a .places) (l .i)),
+      filled-set _ 90 (l .i) _ (l .list) (omega arith)
+          (ap₂ (λ (x : ℕ) (y : ℕ). x * y) net (on c) ∙ pin-product s (a .at) (a .places) (h .0) (l .i) (c .before .loop-test .taken))
+          (l .inv .2),
+    )
 
 returns : tie.Need-returns Inv-loop μ-loop
 unfolding sideNets
 returns c =
-    let a = c .before .before .before .args in
+    let a = c .before .before .before .before .args in
     let l = c .before .loop in
     filled-end _ 90 (l .i) (l .list) (λ k h. pin-past (now (a .ticket)) true (a .at) (a .places) k (omega arith)) (l .inv .2)
 
@@ -88,15 +120,19 @@ side-nets-spec =
     (tie.spec
     Inv-loop
     μ-loop
-    add-next
-    add-next-2
+    add-net-list
+    add-net-list-2
+    net-list-requires
     loop-holds
-    add-byte-at
-    byte-at-requires
-    bit-of-requires
-    byte-at-requires-2
+    add-on
+    shared-slice-read-on
+    cast-on
+    shr-on
+    array-read-list
+    mul-list
     array-write-list
-    add-next-3
+    cast-next
+    add-next
     add-i
     loop-less
     loop-again

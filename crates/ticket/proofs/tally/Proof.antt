@@ -3,13 +3,11 @@ use Prim.Native.Nat.{ℕ, _+_, _-_, _≤_}
 use mathlib.Core.Path.{_≡_, ap, _∙_}
 use native.Mathlib.Omega.{arith}
 use denote.Ref.{now}
-use lib.Dec.{eqb}
 use lib.ListN.{getD}
 use mir.Syntax.{w8}
 use mir.Val.{Fits}
 use borrow.Author.Needs.{needs}
-use Rattle.counting.proofs.Counts.{count-le}
-use Rattle.ticket.proofs.Tallies.{Tally, tally-none, tally-more}
+use Rattle.ticket.proofs.Tallies.{Tally, tally-none, tally-more, tally-le}
 use Rattle.ticket.specs.Format.{byte, mapBytes, times}
 use Rattle.ticket.proofs.tally.Statement.{statement}
 use Rattle.ticket.proofs.tally.Tie as tie
@@ -47,14 +45,8 @@ array-read-c c = omega (arith, elem c, c .before .before .loop .inv .2 .size)
 
 add-c : tie.Need-add-c Inv-loop μ-loop
 add-c c =
-    let c3 = c .before .before .before in
-    let a = c3 .args in
-    let l = c .before .before .loop in
-    let s = now (a .ticket) in
-    let v = byte s (l .i) in
-    let from = a .at + mapBytes (a .places) in
     let h = elem c in
-    omega (arith, l .inv .2 .counts v (h .fits), c3 .pre .0 v (h .fits), count-le (λ j. eqb (byte s (from + (j - 1))) v) (l .i - from))
+    omega (arith, tally-le (c .before .before .loop .inv .2) _ (h .fits), c .before .before .before .pre .0 _ (h .fits))
 
 mul-c-2 : tie.Need-mul-c-2 Inv-loop μ-loop
 mul-c-2 c = omega (arith, elem c)
