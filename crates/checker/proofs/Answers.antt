@@ -1,6 +1,6 @@
 -- From what the inner functions find to Check's outcome: the first point of an unknown number is the first foreign one, and the smallest net with an
 -- unmarked spot is the smallest that is not in one piece.
-use Prim.Native.Nat.{ℕ, _*_, _-_, _≤_, _<_}
+use Prim.Native.Nat.{ℕ, _*_, _≤_, _<_}
 use mathlib.Core.Path.{_≡_, refl, sym, ap, _∙_, subst}
 use mathlib.Core.Logic.{_⊎_, inl, inr, _≢_, ⊎-elim}
 use mathlib.Core.List.{List}

@@ -1,6 +1,6 @@
 -- Once the marks have settled, a net is in one piece just where all that holds it is marked: its first pin, the only mark of the net that they began
 -- with, is linked to just what is marked.
-use Prim.Native.Nat.{ℕ, zero, suc, _+_, _-_, _<_}
+use Prim.Native.Nat.{ℕ, zero, suc, _+_, _<_}
 use mathlib.Core.Path.{_≡_, refl, sym, ap, _∙_, subst}
 use mathlib.Core.Logic.{_⊎_, inl, inr, _≢_}
 use mathlib.Core.List.{List}

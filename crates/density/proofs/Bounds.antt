@@ -15,7 +15,7 @@ use Rattle.grid.specs.Legal.{Pins, Wiring, Held, Linked, Legal, topNet, box, Gr
 use Rattle.grid.proofs.Pins.{Bare}
 use Rattle.grid.proofs.Motion.{turned, turn, movedPins, movedWiring}
 use Rattle.grid.proofs.Motions.{turn-legal}
-use Rattle.density.specs.Density.{passes, passesAt, across, up, horizontals, verticals, tracksFor, floor, floorOf}
+use Rattle.density.specs.Density.{passes, across, up, horizontals, verticals, tracksFor, floor, floorOf}
 use Rattle.density.specs.Rivals.{Narrowest, Lowest}
 use Rattle.density.proofs.Free.{across-free, floor-box}
 use Rattle.density.proofs.Tracks.{up-turned}

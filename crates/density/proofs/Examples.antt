@@ -1,11 +1,10 @@
 -- Figures of document 01's own tickets, computed from the definitions: they bound the counts from both sides.
-use Prim.Native.Nat.{ℕ}
 use mathlib.Core.Path.{_≡_, refl}
-use mathlib.Core.List.{List, [], _∷_}
+use mathlib.Core.List.{[], _∷_}
 use Rattle.counting.specs.Counting.{sum, some, most, ceil}
 use Rattle.grid.specs.Grid.{upright}
 use Rattle.grid.specs.Legal.{Pins, pinsOf}
-use Rattle.density.specs.Density.{pinOn, hasPin, passesAt, passes, across, up, tracksFor, floor, floorOf}
+use Rattle.density.specs.Density.{pinOn, hasPin, passesAt, across, up, tracksFor, floor, floorOf}
 
 -- C2: "n 3, h 1, north 1 1 empty, south empty 2 2: across 2, through column 2"
 c2 : Pins

@@ -1,7 +1,7 @@
 -- The counts that the calls take are so small that their products fit; and what a layer view that is not refused may rely on.
 use Prim.Native.Nat.{ℕ, _+_, _-_, _*_, _≤_}
 use mathlib.Core.Path.{_≡_, refl}
-use mathlib.Core.Bool.{Bool, true, false, cond, _&&_, and-eq-true-iff}
+use mathlib.Core.Bool.{Bool, true, false, _&&_, and-eq-true-iff}
 use mathlib.Core.List.{List}
 use native.Mathlib.Nat.{mul-le-mul}
 use native.Mathlib.Omega.{arith}
@@ -9,7 +9,6 @@ use lib.Dec.{eqb, leb}
 use lib.ListN.{length}
 use borrow.Author.Tests.{eqb-true, leb-true}
 use Rattle.counting.specs.Counting.{In}
-use Rattle.counting.proofs.Sums.{split}
 use Rattle.grid.specs.declared.Refusal.{Refusal}
 use Rattle.grid.specs.View.{longestSide, mostLayers, within, refusal, unless, viewRefusal}
 

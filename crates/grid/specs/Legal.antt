@@ -21,7 +21,7 @@ use mathlib.Core.Logic.{_≢_}
 use mathlib.Core.Bool.{Bool}
 use mathlib.Core.List.{List, _∷_}
 use lib.ListN.{getD}
-use Rattle.counting.specs.Counting.{In, count}
+use Rattle.counting.specs.Counting.{count}
 use Rattle.grid.specs.Grid.{Grid, Side, north, south, west, east, Node, pin, point, Inside, Joined}
 
 abbrev pub Pins : Type 0

@@ -1,19 +1,18 @@
 -- A row or a channel has no more nets than columns, since each net has two of its places: so across is at most its length.
-use Prim.Native.Nat.{ℕ, suc, _+_, _*_, _≤_, _<_}
-use mathlib.Core.Path.{_≡_, refl, sym, ap, _∙_}
-use mathlib.Core.Logic.{_≢_, by-cases, ⊎-elim, inl, inr}
-use mathlib.Core.Bool.{true, false}
+use Prim.Native.Nat.{ℕ, _+_, _≤_}
+use mathlib.Core.Path.{_≡_, sym, ap, _∙_}
+use mathlib.Core.Logic.{_≢_}
 use native.Mathlib.Omega.{arith}
-use native.Mathlib.Decide.{decLt, ℕ-discrete}
+use native.Mathlib.Decide.{decLt}
 use lib.Dec.{eqb}
 use borrow.Author.Tests.{eq-eqb}
-use Rattle.counting.specs.Counting.{In, bit, count, sum}
+use Rattle.counting.specs.Counting.{In, bit, count}
 use Rattle.counting.proofs.Sums.{split, bit-le, bit-one, bit-zero, sum-le, sum-add, sum-part, sum-two, double-count}
 use Rattle.counting.proofs.Counts.{most-le}
-use Rattle.grid.specs.Grid.{Grid, Side, north, south, west, east, pin, places}
+use Rattle.grid.specs.Grid.{Side, north, south, west, east, pin, places}
 use Rattle.grid.specs.Legal.{Pins, topNet, nets, box}
 use Rattle.density.specs.Density.{passes, across}
-use Rattle.density.proofs.Pinned.{Pinned, passes-iff}
+use Rattle.density.proofs.Pinned.{passes-iff}
 use Rattle.ticket.specs.declared.Ticket.{Ticket}
 use Rattle.ticket.specs.Format.{pinsIn}
 use Rattle.ticket.specs.Good.{gridIn, Another, Good}

@@ -3,18 +3,18 @@
 use Prim.Native.Nat.{ℕ, zero, suc, _+_, _*_, _/_, _≤_, max, min}
 use mathlib.Core.Path.{_≡_, refl, sym, ap, _∙_, subst, subst₂, fun-ext}
 use mathlib.Core.Logic.{_≢_, by-cases}
-use mathlib.Core.Bool.{Bool, true, false, cond, _&&_}
+use mathlib.Core.Bool.{Bool, false, cond}
 use mathlib.Core.List.{List, []}
 use native.Mathlib.Omega.{arith}
 use native.Mathlib.Decide.{ℕ-discrete}
 use native.Mathlib.Nat.{mul-comm, mul-le-mul-left, mul-le-mul-right}
-use lib.Dec.{eqb, ltb}
+use lib.Dec.{ltb}
 use lib.ListN.{length, getD}
 use borrow.Author.Tests.{eq-eqb, ne-eqb}
 use Rattle.counting.specs.Counting.{In, ceil, bit}
 use Rattle.counting.proofs.Counts.{ceil-le, round-up}
 use Rattle.grid.specs.Grid.{Grid, upright, Side, north, south, west, east}
-use Rattle.grid.specs.Legal.{Pins, Wiring, Legal, GridOf, row, channel, box, topNet, entry, wiringOf}
+use Rattle.grid.specs.Legal.{Pins, Wiring, Legal, GridOf, row, channel, box, entry}
 use Rattle.grid.specs.View.{longestSide, mostLayers}
 use Rattle.grid.proofs.Sizes.{Sized}
 use Rattle.density.specs.Density.{across, up, horizontals, tracksFor, floorOf}
@@ -29,7 +29,6 @@ use Rattle.survey.specs.Survey.{figuresOf, trunkFigures, boxFigures, layersFor}
 use Rattle.paint.specs.Laid.{Laid}
 use Rattle.channel.specs.Given.{columnPins, Given}
 use Rattle.switchbox.specs.Wired.{boxLayers, boxGrid, BoxPins}
-use Rattle.router.specs.declared.LayAnswer.{LayAnswer}
 use Rattle.router.specs.Lay.{firstOf, needed, laidAnswer, gridOf}
 use Rattle.router.proofs.Few.{across-few}
 

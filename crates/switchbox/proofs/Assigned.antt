@@ -1,5 +1,5 @@
 -- The tables of a box whose nets on just north and east are the most numerous corner kind are fit for the assignment of lanes, and with these lanes the box is laid.
-use Prim.Native.Nat.{ℕ, zero, suc, _+_, _*_, _-_, _/_, _%_, _≤_, _<_}
+use Prim.Native.Nat.{ℕ, zero, suc, _+_, _*_, _≤_, _<_}
 use mathlib.Core.Path.{_≡_, refl, sym, ap, subst, _∙_, fun-ext}
 use mathlib.Core.List.{List}
 use mathlib.Core.Bool.{Bool, true, false}

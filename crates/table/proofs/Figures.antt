@@ -1,6 +1,6 @@
 -- The figures and the lines of document 01's tickets, computed from the definitions.
 use Prim.Native.Nat.{ℕ}
-use mathlib.Core.List.{List, [], _∷_, map}
+use mathlib.Core.List.{[], _∷_, map}
 use mathlib.Core.Path.{_≡_, refl}
 use Rattle.counting.specs.Counting.{sum, some, most, ceil}
 use Rattle.density.specs.Density.{pinOn, hasPin, passesAt, across, up, tracksFor, floor}

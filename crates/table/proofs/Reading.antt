@@ -1,6 +1,6 @@
 -- Document 01's tickets as read, one computed table.
 use Prim.Native.Nat.{ℕ}
-use mathlib.Core.List.{List, [], _∷_, map}
+use mathlib.Core.List.{[], _∷_, map}
 use mathlib.Core.Path.{_≡_, refl}
 use Rattle.counting.specs.Counting.{sum}
 use Rattle.ticket.specs.declared.ReadAnswer.{ReadAnswer}

@@ -16,7 +16,8 @@ use Rattle.counting.specs.Counting.{bit, sum, count}
 use Rattle.counting.proofs.Sums.{split, bit-le, bit-one, bit-zero, sum-more, sum-grows}
 use Rattle.counting.proofs.Counts.{count-le}
 use Rattle.ticket.proofs.Flags.{le-or-lt}
-use Rattle.ticket.specs.Format.{byte, isOn, stands, standing, mapBytes, goodMap, mapCount, pinNet}
+use Rattle.ticket.specs.Format.{byte, isOn, stands, standing, mapBytes, goodMap, pinNet}
+use Rattle.ticket.specs.Steps.{mapCount}
 
 -- ---- one byte
 

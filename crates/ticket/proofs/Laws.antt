@@ -14,7 +14,8 @@ use borrow.Author.Tests.{lt-ltb, le-ltb, eq-eqb, ne-eqb, leb-true}
 use Rattle.grid.specs.Legal.{topNet, box}
 use Rattle.grid.specs.View.{longestSide, within}
 use Rattle.ticket.specs.Format.{byte, mostTrunkLayers, largestByte2, largestSideMap, least}
-use Rattle.ticket.specs.Read.{refusal, goOn, unless, fieldsOf, headerOf, netsOf, Header, orRefused, refusedTicket}
+use Rattle.ticket.specs.Read.{refusal, goOn, unless, fieldsOf, headerOf, netsOf, orRefused, refusedTicket}
+use Rattle.ticket.specs.Steps.{Header}
 use Rattle.ticket.specs.declared.Cursor.{Cursor}
 use Rattle.ticket.specs.declared.Ticket.{Ticket}
 

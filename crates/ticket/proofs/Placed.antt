@@ -15,7 +15,8 @@ use Rattle.grid.specs.View.{longestSide}
 use Rattle.ticket.proofs.Bits.{at-place, bit-mod, standing-below, standing-le, full-standing, full-stands, pin-stands, pin-empty, pin-past}
 use Rattle.ticket.proofs.Filled.{getD-listed, listed-same}
 use Rattle.ticket.proofs.Flags.{le-or-lt}
-use Rattle.ticket.specs.Format.{byte, stands, standing, mapBytes, pinNet, sideNets, netList}
+use Rattle.ticket.specs.Format.{byte, stands, standing, mapBytes, pinNet, sideNets}
+use Rattle.ticket.specs.Steps.{netList}
 
 -- ---- the list
 

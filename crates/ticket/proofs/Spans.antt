@@ -18,8 +18,9 @@ use Rattle.grid.specs.View.{longestSide}
 use Rattle.ticket.proofs.Bits.{standing-one, standing-none, standing-le, pin-stands, pin-empty, pin-past, pin-off}
 use Rattle.ticket.proofs.Filled.{entry-listed}
 use Rattle.ticket.proofs.Laws.{unless-good, nets-good}
-use Rattle.ticket.specs.Format.{byte, stands, standing, mapBytes, goodMap, pinNet, sideNets, pinsIn, pinCount, times}
-use Rattle.ticket.specs.Read.{goOn, netsOf, sideOf, after, northEnd, southEnd, westEnd, eastEnd, endsOf, pinsAt, Header, Spans, Sides}
+use Rattle.ticket.specs.Format.{byte, stands, standing, mapBytes, goodMap, pinNet, sideNets, pinsIn, pinCount}
+use Rattle.ticket.specs.Read.{goOn, netsOf, sideOf, after, northEnd, southEnd, westEnd, eastEnd, endsOf, pinsAt}
+use Rattle.ticket.specs.Steps.{times, Header, Spans, Sides}
 use Rattle.ticket.specs.declared.Cursor.{Cursor}
 use Rattle.ticket.specs.declared.Ends.{Ends}
 

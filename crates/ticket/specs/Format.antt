@@ -9,16 +9,13 @@
 --   standing s from p    how many of the places 1 to p have a pin; "The number of standing bits of a map"
 --   mapBytes p           "p places .. in p/8 bytes, rounded up"
 --   goodMap s from p     "Spare bits are zero, and at least one bit stands": the map's bytes have no standing bits but those of its p places
---   mapCount s from p    not part of the definition, but what map_count answers: how many places of a good map have a pin, 0 for one that is not good
 --   pinNet s on from p a the net of place a: "one net number, 1 to 180, for each standing bit, in rising order of place", after the map; 0 where the
 --                        place is empty or the side does not stand (on)
 --   listed f i k         f i, f (i + 1), .., k of them
 --   sideNets s on from p the nets of a side's places as 90 numbers
---   netList s from k     not part of the definition, but what net_list answers: the k bytes from byte from on, and 0 past them, as 90 numbers
 --   pinsIn ps            the four lists as the grid's pins
 --   pinCountOn p m s, pinCount p m
 --                        how many pins hold net m, on side s and on all
---   times s v from k     not part of the definition, but what tally answers: how often v stands in the k bytes from byte from on
 --   netCount p           "the number of nets": how many have a pin
 --   least t top          the smallest of 1 to top that passes the test t, 0 where none does
 --   loneNet p            "a net with one pin (the smallest such net)", 0 where there is none
@@ -60,9 +57,6 @@ mapBytes p = (p + 7) / 8
 unfoldable pub goodMap : List ℕ → ℕ → ℕ → Bool
 goodMap s from p = leb 1 (standing s from p) && eqb (standing s from (8 * mapBytes p)) (standing s from p)
 
-abbrev pub mapCount : List ℕ → ℕ → ℕ → ℕ
-mapCount s from p = cond (goodMap s from p) (standing s from p) 0
-
 unfoldable pub pinNet : List ℕ → Bool → ℕ → ℕ → ℕ → ℕ
 pinNet s on from p a = cond (on && leb a p && stands s from a) (byte s (from + mapBytes p + standing s from (a - 1))) 0
 
@@ -73,9 +67,6 @@ listed f i (suc k) = f i ∷ listed f (suc i) k
 unfoldable pub sideNets : List ℕ → Bool → ℕ → ℕ → List ℕ
 sideNets s on from p = listed (pinNet s on from p) 1 longestSide
 
-unfoldable pub netList : List ℕ → ℕ → ℕ → List ℕ
-netList s from k = listed (λ a. cond (leb a k) (byte s (from + (a - 1))) 0) 1 longestSide
-
 abbrev pub pinsIn : Pins → GridPins
 pinsIn ps = pinsOf (ps .north) (ps .south) (ps .west) (ps .east)
 
@@ -84,9 +75,6 @@ pinCountOn p m s = count (λ a. eqb (p s a) m) longestSide
 
 unfoldable pub pinCount : GridPins → ℕ → ℕ
 pinCount p m = pinCountOn p m north + pinCountOn p m south + pinCountOn p m west + pinCountOn p m east
-
-abbrev pub times : List ℕ → ℕ → ℕ → ℕ → ℕ
-times s v from k = count (λ j. eqb (byte s (from + (j - 1))) v) k
 
 abbrev pub netCount : GridPins → ℕ
 netCount p = nets (λ m. leb 1 (pinCount p m))

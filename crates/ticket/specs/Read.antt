@@ -20,16 +20,11 @@
 --   ticketOf s            the whole reading, with the pins
 --   readOf s              Read's answer
 --   ticketPins s          the pins of the ticket
---   Header s, Spans s on from p end, Sides s e
---                         not part of the definition, but what the functions ask: the header's ranges; a side of p places that stands (on) has its map and
---                         its nets from byte from to byte end of the ticket, one that does not has no byte; all four sides, each from the end of the one before
-use Prim.Native.Nat.{ℕ, zero, suc, _+_, _≤_}
-use mathlib.Core.Path.{_≡_}
-use mathlib.Core.Bool.{Bool, true, false, cond, _&&_}
+use Prim.Native.Nat.{ℕ, zero, suc, _+_}
+use mathlib.Core.Bool.{Bool, cond, _&&_}
 use mathlib.Core.List.{List}
 use lib.ListN.{length, replicate}
 use lib.Dec.{ltb, leb, eqb}
-use Rattle.counting.specs.Counting.{In}
 use Rattle.grid.specs.Legal.{Pins as GridPins, topNet, box}
 use Rattle.grid.specs.View.{longestSide, within}
 use Rattle.ticket.specs.Format.{byte, largestByte2, largestSideMap, isOn, standing, mapBytes, goodMap, sideNets, pinsIn, netCount, loneNet}
@@ -137,22 +132,3 @@ readOf s = ticketOf s .answer
 
 abbrev pub ticketPins : List ℕ → GridPins
 ticketPins s = pinsIn (ticketOf s .pins)
-
--- ---- what the functions ask of a ticket whose header is good
-
-pub record Header (s : List ℕ) : Type 0 where
-  pub size : 4 ≤ length s
-  pub one : In (byte s 1) longestSide
-  pub two : In (byte s 2) longestSide
-
-pub record Spans (s : List ℕ) (on : Bool) (from p end : ℕ) : Type 0 where
-  pub stands : on ≡ true → end ≡ from + mapBytes p + standing s from p
-  pub lacks : on ≡ false → end ≡ from
-  pub start : from ≤ end
-  pub size : end ≤ length s
-
-pub record Sides (s : List ℕ) (e : Ends) : Type 0 where
-  pub north : Spans s (isOn (byte s 3) 0) 4 (byte s 1) (e .north .at)
-  pub south : Spans s (isOn (byte s 3) 1) (e .north .at) (byte s 1) (e .south .at)
-  pub west : Spans s (isOn (byte s 3) 2) (e .south .at) (byte s 2) (e .west .at)
-  pub east : Spans s (isOn (byte s 3) 3) (e .west .at) (byte s 2) (e .east .at)

@@ -9,8 +9,9 @@ ghost use lib.Dec.{leb, eqb};
 ghost use mathlib.Core.Bool.{true, false, cond, _&&_};
 ghost use Rattle.grid.specs.Legal.{topNet};
 ghost use Rattle.counting.specs.Counting.{In, count};
-ghost use Rattle.ticket.specs.Format.{largestByte2, largestSideMap, isOn, standing, mapBytes, mapCount, sideNets, pinCount, pinsIn, times, netList, least};
-ghost use Rattle.ticket.specs.Read.{refusal, goOn, unless, fieldsOf, headerOf, netsOf, sideOf, after, endsOf, pinsAt, leftOver, noLone, Header, Spans, Sides, refusedTicket, acceptedTicket, judged, ticketOf, readOf};
+ghost use Rattle.ticket.specs.Format.{largestByte2, largestSideMap, isOn, standing, mapBytes, sideNets, pinCount, pinsIn, least};
+ghost use Rattle.ticket.specs.Read.{refusal, goOn, unless, fieldsOf, headerOf, netsOf, sideOf, after, endsOf, pinsAt, leftOver, noLone, refusedTicket, acceptedTicket, judged, ticketOf, readOf};
+ghost use Rattle.ticket.specs.Steps.{mapCount, times, netList, Header, Spans, Sides};
 
 pub const MOST_TRUNK_LAYERS: usize = 8;
 

@@ -1,6 +1,5 @@
 -- `grid::layer_view` meets its contract: a view that is not refused has a layer whose part lies in the buffer.
 use borrow.Author.Needs.{needs}
-use Prim.Native.Nat.{ℕ}
 use mathlib.Core.Path.{sym, ap, _∙_}
 use native.Mathlib.Omega.{arith}
 use native.Mathlib.Nat.{add-sub-cancel-left}

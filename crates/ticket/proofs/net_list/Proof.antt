@@ -4,7 +4,7 @@ use mathlib.Core.Path.{sym}
 use native.Mathlib.Omega.{arith}
 use denote.Ref.{now}
 use borrow.Author.Needs.{needs}
-use Rattle.ticket.specs.Format.{netList}
+use Rattle.ticket.specs.Steps.{netList}
 use Rattle.ticket.proofs.Filled.{Filled, filled-none, filled-set, filled-end}
 use Rattle.ticket.proofs.Placed.{netOf, net-of, net-past}
 use Rattle.ticket.proofs.net_list.Statement.{statement}

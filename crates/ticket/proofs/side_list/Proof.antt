@@ -6,7 +6,8 @@ use native.Mathlib.Omega.{arith}
 use denote.Ref.{now}
 use borrow.Author.Tests.{not-true, not-false}
 use borrow.Author.Needs.{needs}
-use Rattle.ticket.specs.Format.{standing, mapBytes, pinNet, sideNets, netList}
+use Rattle.ticket.specs.Format.{standing, mapBytes, pinNet, sideNets}
+use Rattle.ticket.specs.Steps.{netList}
 use Rattle.ticket.proofs.Bits.{pin-off}
 use Rattle.ticket.proofs.Filled.{filled-none, filled-end}
 use Rattle.ticket.proofs.Placed.{full-list}

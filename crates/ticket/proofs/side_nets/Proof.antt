@@ -11,7 +11,8 @@ use mir.Val.{Fits}
 use borrow.Author.Needs.{needs}
 use Rattle.counting.specs.Counting.{bit}
 use Rattle.counting.proofs.Sums.{sum-none}
-use Rattle.ticket.specs.Format.{byte, stands, standing, mapBytes, pinNet, sideNets, netList}
+use Rattle.ticket.specs.Format.{byte, stands, standing, mapBytes, pinNet, sideNets}
+use Rattle.ticket.specs.Steps.{netList}
 use Rattle.ticket.proofs.Bits.{standing-le, pin-past}
 use Rattle.ticket.proofs.Filled.{Filled, filled-none, filled-set, filled-end}
 use Rattle.ticket.proofs.Placed.{times-bit, place-bit, next-net, pin-product}
