@@ -2,6 +2,7 @@
 --
 --   Nets side                 a side of at most 90 places, which hold nets or 0; "one net number, 1 to 180"
 --   Counted side n counts     entry m of counts is how many of the first n places hold m
+--   Halved side n even odd    entries m of even and of odd are together how many of the first n places hold m
 --   tallies a b c d m         the pins of net m; a to d are the counts of north, south, west and east
 --   Asked ..                  lanes 1 to top are enough for the nets that get one, and there is one beside each place of the side `own`
 use Prim.Native.Nat.{ℕ, _+_, _≤_, _<_}
@@ -20,6 +21,9 @@ pub record Nets (side : List ℕ) : Type 0 where
 
 pub record Counted (side : List ℕ) (n : ℕ) (counts : List ℕ) : Type 0 where
   pub is : (m : ℕ) → m < 181 → getD counts m 0 ≡ count (λ a. eqb (entry side a) m) n
+
+pub record Halved (side : List ℕ) (n : ℕ) (even odd : List ℕ) : Type 0 where
+  pub is : (m : ℕ) → m < 181 → getD even m 0 + getD odd m 0 ≡ count (λ a. eqb (entry side a) m) n
 
 abbrev pub tallies : List ℕ → List ℕ → List ℕ → List ℕ → ℕ → Tally
 tallies a b c d m = four (getD a m 0) (getD b m 0) (getD c m 0) (getD d m 0)

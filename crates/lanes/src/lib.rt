@@ -9,7 +9,7 @@ ghost use Rattle.counting.specs.Counting.{bit};
 ghost use Rattle.grid.specs.Legal.{entry, nets};
 ghost use Rattle.switchbox_law.specs.Rules.{four, gets, pair, alternate, wanted};
 ghost use Rattle.switchbox_law.specs.Drawing.{Lanes};
-ghost use Rattle.lanes.specs.Tables.{Nets, Counted, tallies, Asked};
+ghost use Rattle.lanes.specs.Tables.{Nets, Counted, Halved, tallies, Asked};
 ghost use Rattle.lanes.specs.Placing.{Took, Listed, Distinct, Spread};
 
 fn both(a: bool, b: bool) -> bool
@@ -30,17 +30,41 @@ fn wide(x: u8) -> usize
     x as usize
 }
 
+// How many pins each net has on a side, in two parts: at every second place, and in `odd` at the others. A count waits for its
+// last store, and most often two places that follow each other are empty; so these are counted apart.
+fn count_pairs(side: &[u8], odd: &mut [u8; 181]) -> [u8; 181]
+    requires { ⌜ Nets (now side) × (length (now odd) ≡ 181) × ((m : ℕ) → m < 181 → getD (now odd) m 0 ≡ 0) ⌝ }
+    ensures { λ r. ⌜ Halved (now (side .entry)) (length (now (side .entry))) r (now (odd .exit)) ⌝ }
+{
+    let mut even: [u8; 181] = [0; 181];
+    let mut i: usize = 0;
+    while i + 1 < side.len() {
+        let a = wide(side[i]);
+        even[a] = even[a] + 1;
+        let b = wide(side[i + 1]);
+        odd[b] = odd[b] + 1;
+        i += 2;
+    }
+    if i < side.len() {
+        let a = wide(side[i]);
+        even[a] = even[a] + 1;
+        return even;
+    }
+    even
+}
+
 // How many pins each net has on a side; entry 0 counts the empty places.
 pub fn count_side(side: &[u8]) -> [u8; 181]
     requires { ⌜ Nets (now side) ⌝ }
     ensures { λ r. ⌜ Counted (now (side .entry)) (length (now (side .entry))) r ⌝ }
 {
+    let mut odd: [u8; 181] = [0; 181];
+    let even = count_pairs(side, &mut odd);
     let mut counts: [u8; 181] = [0; 181];
-    let mut i = 0;
-    while i < side.len() {
-        let m = wide(side[i]);
-        counts[m] = counts[m] + 1;
-        i += 1;
+    let mut k: usize = 0;
+    while k < 181 {
+        counts[k] = even[k] + odd[k];
+        k += 1;
     }
     counts
 }

@@ -1,70 +1,58 @@
--- The places passed are counted: each adds one to its net's entry.
-use Prim.Native.Nat.{_≤_, _<_, _-_}
-use mathlib.Core.Path.{_≡_, refl}
+-- A net's count is the sum of its two parts.
+use Prim.Native.Nat.{_≤_, _-_}
+use mathlib.Core.Path.{_≡_, refl, _∙_}
 use native.Mathlib.Omega.{arith}
 use borrow.Author.Needs.{needs}
 use lib.Dec.{eqb}
-use lib.ListN.{length, length-set}
+use lib.ListN.{length, length-set, getD-replicate}
 use Rattle.counting.proofs.Counts.{count-le}
 use Rattle.grid.specs.Legal.{entry}
-use Rattle.lanes.specs.Tables.{Counted}
-use Rattle.lanes.proofs.Tables.{counted-none, counted-more}
+use Rattle.lanes.proofs.Tables.{Summed, summed-more}
 use Rattle.lanes.proofs.count_side.Statement.{statement}
 use Rattle.lanes.proofs.count_side.Tie as tie
 
 abbrev Inv-loop : tie.InvT-loop
-Inv-loop side counts₀ i₀ counts i = (i ≤ length side) × (length counts ≡ 181) × Counted side i counts
+Inv-loop side odd even counts₀ k₀ counts k = (k ≤ 181) × (length counts ≡ 181) × Summed even odd counts k
 
 abbrev μ-loop : tie.MeasureT-loop
-μ-loop side counts₀ i₀ counts i = length side - i
+μ-loop side odd even counts₀ k₀ counts k = 181 - k
+
+count-pairs-requires : tie.Need-count-pairs-requires Inv-loop μ-loop
+count-pairs-requires c κs = (c .before .before .pre, refl, λ m l. getD-replicate 181 m 0 0 l)
 
 loop-holds : tie.Need-loop-holds Inv-loop μ-loop
-loop-holds c = (omega arith, refl, counted-none (c .before .args .side .now))
-
-shared-slice-read-wide : tie.Need-shared-slice-read-wide Inv-loop μ-loop
-shared-slice-read-wide c = search needs
-
-wide-requires : tie.Need-wide-requires Inv-loop μ-loop
-wide-requires c κs = search needs
-
-small : (c : tie.After-wide Inv-loop μ-loop) → c .wide .result < 181
-small c =
-    let s = c .before .before .before .before .before in
-    let i = c .before .before .before .loop .i in
-    omega (arith, c .wide .ensures, s .pre .small i (omega arith))
+loop-holds c = (omega arith, refl, λ m l. absurd (omega arith))
 
 array-read-counts : tie.Need-array-read-counts Inv-loop μ-loop
-array-read-counts c = omega (arith, small c)
+array-read-counts c = search needs
+
+array-read-counts-2 : tie.Need-array-read-counts-2 Inv-loop μ-loop
+array-read-counts-2 c = search needs
 
 add-counts : tie.Need-add-counts Inv-loop μ-loop
 add-counts c =
-    let s = c .before .before .before .before .before in
-    let l = c .before .before .before .loop in
-    omega (arith, l .inv .2 .is (c .wide .result) (small c), count-le (λ a. eqb (entry (s .args .side .now) a) (c .wide .result)) (l .i))
+    let c2 = c .before .before in
+    let start = c2 .before .before .before in
+    let k = c .before .loop .k in
+    omega (arith, start .pre .short, c2 .count-pairs .ensures .is k (omega arith), count-le (λ a. eqb (entry (start .args .side .now) a) k) (length (start .args .side .now)))
 
 array-write-counts : tie.Need-array-write-counts Inv-loop μ-loop
-array-write-counts c = omega (arith, small c)
+array-write-counts c = search needs
 
-add-i : tie.Need-add-i Inv-loop μ-loop
-add-i c = search needs
+add-k : tie.Need-add-k Inv-loop μ-loop
+add-k c = search needs
 
 loop-less : tie.Need-loop-less Inv-loop μ-loop
 loop-less c = search needs
 
 loop-again : tie.Need-loop-again Inv-loop μ-loop
 loop-again c =
-    let s = c .before .before .before .before .before in
-    let l = c .before .before .before .loop in (
-      omega arith,
-      simp length-set (l .inv .1),
-      counted-more (s .args .side .now) (l .counts) (l .i) (c .wide .result) (c .wide .ensures) (omega (arith, small c)) (l .inv .1) (l .inv .2),
-    )
+    let l = c .before .loop in
+    let parts = c .before .before .count-pairs in
+    (omega arith, simp length-set (l .inv .1), summed-more (parts .result) (parts .last .1 .0) (l .counts) (l .k) (l .inv .1) (omega arith) (l .inv .2))
 
 returns : tie.Need-returns Inv-loop μ-loop
-returns c =
-    let l = c .before .loop in
-    let e : l .i ≡ length (c .before .before .before .args .side .now) = omega arith in
-    rw (← e) (l .inv .2)
+returns c = record { is = λ m l. c .before .loop .inv .2 m (omega arith) ∙ c .before .before .count-pairs .ensures .is m l }
 
 pub count-side-spec : {M : Type 1} → statement M
 count-side-spec =
@@ -72,13 +60,13 @@ count-side-spec =
     (tie.spec
     Inv-loop
     μ-loop
+    count-pairs-requires
     loop-holds
-    shared-slice-read-wide
-    wide-requires
     array-read-counts
+    array-read-counts-2
     add-counts
     array-write-counts
-    add-i
+    add-k
     loop-less
     loop-again
     returns)
