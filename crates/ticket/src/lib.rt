@@ -291,12 +291,12 @@ fn net_list(ticket: &[u8], from: usize, count: usize) -> [u8; 90]
     list
 }
 
-// The nets of a side whose map starts at byte `at`, each at its place. It does not branch on the map's bits, which nothing foretells.
-fn side_nets(ticket: &[u8], at: usize, count: usize, places: usize) -> [u8; 90]
-    requires { ⌜ (places ≤ 90) × (count ≡ standing (now ticket) at places) × (at + mapBytes places + count ≤ length (now ticket)) ⌝ }
+// The nets of a side whose map starts at byte `at`, each at its place. It does not branch on the map's bits, which took longer.
+fn side_nets(ticket: &[u8], at: usize, places: usize, nets: [u8; 90]) -> [u8; 90]
+    requires { ⌜ (places ≤ 90) × (at + mapBytes places ≤ length (now ticket)) ⌝ }
+    requires { ⌜ nets ≡ netList (now ticket) (at + mapBytes places) (standing (now ticket) at places) ⌝ }
     ensures { λ r. ⌜ r ≡ sideNets (now (ticket .entry)) true at places ⌝ }
 {
-    let nets = net_list(ticket, at + (places + 7) / 8, count);
     let mut list = [0u8; 90];
     let mut next: usize = 0;
     let mut i: usize = 0;
@@ -319,10 +319,11 @@ fn side_list(ticket: &[u8], stands: bool, at: usize, end: usize, places: usize) 
     }
     let from = at + (places + 7) / 8;
     let count = end - from;
+    let nets = net_list(ticket, from, count);
     if count == places {
-        return net_list(ticket, from, count);
+        return nets;
     }
-    side_nets(ticket, at, count, places)
+    side_nets(ticket, at, places, nets)
 }
 
 // The nets of all sides, once their ends are known.

@@ -1,5 +1,5 @@
 -- `ticket::side_list` meets its contract: a side that does not stand is empty, one that is full lies as it is listed, any other has its nets put at their places.
-use Prim.Native.Nat.{_+_}
+use Prim.Native.Nat.{_+_, _-_}
 use mathlib.Core.Bool.{Bool}
 use mathlib.Core.Path.{_≡_, sym, ap, _∙_}
 use native.Mathlib.Omega.{arith}
@@ -8,7 +8,7 @@ use borrow.Author.Tests.{not-true, not-false}
 use borrow.Author.Needs.{needs}
 use Rattle.ticket.specs.Format.{standing, mapBytes, pinNet, sideNets}
 use Rattle.ticket.specs.Steps.{netList}
-use Rattle.ticket.proofs.Bits.{pin-off}
+use Rattle.ticket.proofs.Bits.{standing-le, pin-off}
 use Rattle.ticket.proofs.Filled.{filled-none, filled-end}
 use Rattle.ticket.proofs.Placed.{full-list}
 use Rattle.ticket.proofs.side_list.Statement.{statement}
@@ -35,24 +35,36 @@ sub-count : tie.Need-sub-count
 sub-count c = omega (arith, end c)
 
 net-list-requires : tie.Need-net-list-requires
-net-list-requires c κs = let h = c .before .before .before .pre in (omega (arith, c .if2 .taken, h .0), omega (arith, h .1 .size, end (c .before)))
+net-list-requires c κs =
+    let a = c .before .before .args in
+    let h = c .before .before .pre in
+    (omega (arith, h .0, end c, standing-le (now (a .ticket)) (a .at) (a .places)), omega (arith, h .1 .size, end c))
 
 returns-2 : tie.Need-returns-2
 returns-2 c =
-    let a = c .before .before .before .before .args in
+    let c2 = c .before .before in
+    let a = c2 .before .before .args in
     let s = now (a .ticket) in
     let from = a .at + mapBytes (a .places) in
-    let full = c .before .if2 .taken in
-    c .net-list .ensures ∙ ap (netList s from) full ∙ full-list s (a .at) (a .places) (omega (arith, full, end (c .before .before)))
-    ∙ ap (λ (b : Bool). sideNets s b (a .at) (a .places)) (sym (not-false (a .stands) (c .before .before .if1 .left)))
+    let full : a .end - from ≡ a .places = omega (arith, c .if2 .taken) in
+    c .before .net-list .ensures ∙ ap (netList s from) full ∙ full-list s (a .at) (a .places) (omega (arith, full, end c2))
+    ∙ ap (λ (b : Bool). sideNets s b (a .at) (a .places)) (sym (not-false (a .stands) (c2 .if1 .left)))
 
 side-nets-requires : tie.Need-side-nets-requires
-side-nets-requires c κs = let h = c .before .before .before .pre in (h .0, omega (arith, end (c .before)), omega (arith, h .1 .size, end (c .before)))
+side-nets-requires c κs =
+    let c2 = c .before .before in
+    let a = c2 .before .before .args in
+    let h = c2 .before .before .pre in
+    let s = now (a .ticket) in
+    let from = a .at + mapBytes (a .places) in
+    let all : a .end - from ≡ standing s (a .at) (a .places) = omega (arith, end c2) in
+    ((h .0, omega (arith, h .1 .size, end c2)), c .before .net-list .ensures ∙ ap (netList s from) all)
 
 returns-3 : tie.Need-returns-3
 returns-3 c =
-    let a = c .before .before .before .before .args in
-    c .side-nets .ensures ∙ ap (λ (b : Bool). sideNets (now (a .ticket)) b (a .at) (a .places)) (sym (not-false (a .stands) (c .before .before .if1 .left)))
+    let c3 = c .before .before .before in
+    let a = c3 .before .before .args in
+    c .side-nets .ensures ∙ ap (λ (b : Bool). sideNets (now (a .ticket)) b (a .at) (a .places)) (sym (not-false (a .stands) (c3 .if1 .left)))
 
 pub side-list-spec : {M : Type 1} → statement M
 side-list-spec =

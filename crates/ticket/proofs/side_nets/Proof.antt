@@ -11,8 +11,7 @@ use mir.Val.{Fits}
 use borrow.Author.Needs.{needs}
 use Rattle.counting.specs.Counting.{bit}
 use Rattle.counting.proofs.Sums.{sum-none}
-use Rattle.ticket.specs.Format.{byte, stands, standing, mapBytes, pinNet, sideNets}
-use Rattle.ticket.specs.Steps.{netList}
+use Rattle.ticket.specs.Format.{byte, stands, standing, pinNet, sideNets}
 use Rattle.ticket.proofs.Bits.{standing-le, pin-past}
 use Rattle.ticket.proofs.Filled.{Filled, filled-none, filled-set, filled-end}
 use Rattle.ticket.proofs.Placed.{times-bit, place-bit, next-net, pin-product}
@@ -20,40 +19,31 @@ use Rattle.ticket.proofs.side_nets.Statement.{statement}
 use Rattle.ticket.proofs.side_nets.Tie as tie
 
 abbrev Inv-loop : tie.InvT-loop
-Inv-loop ticket at count places nets list₀ next₀ i₀ list next i = (i ≤ places) × (next ≡ standing ticket at i) × Filled (pinNet ticket true at places) 90 i list
+Inv-loop ticket at places nets list₀ next₀ i₀ list next i = (i ≤ places) × (next ≡ standing ticket at i) × Filled (pinNet ticket true at places) 90 i list
 
 abbrev μ-loop : tie.MeasureT-loop
-μ-loop ticket at count places nets list₀ next₀ i₀ list next i = places - i
+μ-loop ticket at places nets list₀ next₀ i₀ list next i = places - i
 
 -- the list's next net
-elem : (c : tie.After-shared-slice-known2 Inv-loop μ-loop) → Fits w8 (getD (c .before .before .before .net-list .result) (c .before .before .loop .next) 0)
+elem : (c : tie.After-shared-slice-known Inv-loop μ-loop) → Fits w8 (getD (c .before .before .before .args .t4) (c .before .before .loop .next) 0)
 elem c = search needs
 
 -- the bit of the place at hand
-on : (c : tie.After-shared-slice-known2 Inv-loop μ-loop) → let a = c .before .before .before .before .before .args in
+on : (c : tie.After-shared-slice-known Inv-loop μ-loop) → let a = c .before .before .before .args in
     let i = c .before .before .loop .i in
     byte (now (a .ticket)) (a .at + i / 8) / 2 ^ (i % 8) % 2 ≡ bit (stands (now (a .ticket)) (a .at) (i + 1))
 on c =
-    let a = c .before .before .before .before .before .args in
+    let a = c .before .before .before .args in
     place-bit (now (a .ticket)) (a .at) (a .places) (c .before .before .loop .i)
 
 -- past the standing places passed
-few : (c : tie.After-shared-slice-known2 Inv-loop μ-loop) → c .before .before .loop .next ≤ c .before .before .loop .i
+few : (c : tie.After-shared-slice-known Inv-loop μ-loop) → c .before .before .loop .next ≤ c .before .before .loop .i
 few c =
-    let a = c .before .before .before .before .before .args in
+    let a = c .before .before .before .args in
     omega (arith, c .before .before .loop .inv .1, standing-le (now (a .ticket)) (a .at) (c .before .before .loop .i))
 
-add-net-list : tie.Need-add-net-list Inv-loop μ-loop
-add-net-list c = search needs
-
-add-net-list-2 : tie.Need-add-net-list-2 Inv-loop μ-loop
-add-net-list-2 c = search needs
-
-net-list-requires : tie.Need-net-list-requires Inv-loop μ-loop
-net-list-requires c κs = let a = c .before .args in (omega (arith, c .before .pre, standing-le (now (a .ticket)) (a .at) (a .places)), c .before .pre .2)
-
 loop-holds : tie.Need-loop-holds Inv-loop μ-loop
-loop-holds c = (omega arith, sym (sum-none (λ k. bit (stands (now (c .before .before .args .ticket)) (c .before .before .args .at) k))), filled-none _ 90)
+loop-holds c = (omega arith, sym (sum-none (λ k. bit (stands (now (c .args .ticket)) (c .args .at) k))), filled-none _ 90)
 
 add-on : tie.Need-add-on Inv-loop μ-loop
 add-on c = search needs
@@ -72,9 +62,9 @@ array-read-list c = omega (arith, few c)
 
 mul-list : tie.Need-mul-list Inv-loop μ-loop
 mul-list c =
-    let a = c .before .before .before .before .before .args in
+    let a = c .before .before .before .args in
     let i = c .before .before .loop .i in
-    let m = getD (c .before .before .before .net-list .result) (c .before .before .loop .next) 0 in
+    let m = getD (c .before .before .before .args .t4) (c .before .before .loop .next) 0 in
     omega (arith, elem c, ap (λ (x : ℕ). m * x) (on c), times-bit m (stands (now (a .ticket)) (a .at) (i + 1)))
 
 array-write-list : tie.Need-array-write-list Inv-loop μ-loop
@@ -94,24 +84,22 @@ loop-less c = search needs
 
 loop-again : tie.Need-loop-again Inv-loop μ-loop
 loop-again c =
-    let c5 = c .before .before .before .before .before in
-    let a = c5 .args in
+    let c3 = c .before .before .before in
+    let a = c3 .args in
     let s = now (a .ticket) in
     let l = c .before .before .loop in
-    let h = c5 .pre in
-    let nets = c .before .before .before .net-list .ensures ∙ ap (netList s (a .at + mapBytes (a .places))) (h .1) in
-    let net = ap₂ (λ (x : List ℕ) (j : ℕ). getD x j 0) nets (l .inv .1) in (
+    let net = ap₂ (λ (x : List ℕ) (j : ℕ). getD x j 0) (c3 .pre .1) (l .inv .1) in (
       omega arith,
       omega (arith, l .inv .1, on c, next-net s (a .at) (a .places) (l .i)),
       filled-set _ 90 (l .i) _ (l .list) (omega arith)
-          (ap₂ (λ (x : ℕ) (y : ℕ). x * y) net (on c) ∙ pin-product s (a .at) (a .places) (h .0) (l .i) (c .before .loop-test .taken))
+          (ap₂ (λ (x : ℕ) (y : ℕ). x * y) net (on c) ∙ pin-product s (a .at) (a .places) (c3 .pre .0 .0) (l .i) (c .before .loop-test .taken))
           (l .inv .2),
     )
 
 returns : tie.Need-returns Inv-loop μ-loop
 unfolding sideNets
 returns c =
-    let a = c .before .before .before .before .args in
+    let a = c .before .before .args in
     let l = c .before .loop in
     filled-end _ 90 (l .i) (l .list) (λ k h. pin-past (now (a .ticket)) true (a .at) (a .places) k (omega arith)) (l .inv .2)
 
@@ -121,9 +109,6 @@ side-nets-spec =
     (tie.spec
     Inv-loop
     μ-loop
-    add-net-list
-    add-net-list-2
-    net-list-requires
     loop-holds
     add-on
     shared-slice-read-on
