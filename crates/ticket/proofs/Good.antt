@@ -11,7 +11,7 @@ use native.Mathlib.Numerals.{add-one}
 use native.Mathlib.Omega.{arith}
 use lib.Dec.{leb, eqb}
 use lib.ListN.{length}
-use borrow.Author.Tests.{eqb-true, eqb-false, eq-eqb, ne-eqb}
+use borrow.Author.Tests.{eqb-true, eqb-false, eq-eqb, ne-eqb, leb-true}
 use Rattle.counting.specs.Counting.{In}
 use Rattle.counting.proofs.Sums.{split}
 use Rattle.grid.specs.Grid.{Grid, Side, north, south, west, east, places, upright}
@@ -91,19 +91,20 @@ stage c t e =
     (λ z. (z, rw (eq-eqb (c .number) 0 z)))
     (λ n. absurd (n (rw (ne-eqb (c .number) 0 n) at e)))
 
-abbrev found : List ℕ → Pins
+abbrev pub found : List ℕ → Pins
 found s = pinsAt s (endsOf s)
 
 abbrev number : Ticket → ℕ
 number t = t .answer .number
 
-record Read (s : List ℕ) : Type 0 where
-  header : Fields (byte s 0) (byte s 1) (byte s 2) (byte s 3)
-  sides : eastEnd s .number ≡ 0
-  lone : loneNet (pinsIn (found s)) ≡ 0
-  whole : ticketOf s ≡ acceptedTicket s (netCount (pinsIn (found s))) (found s)
+pub record Read (s : List ℕ) : Type 0 where
+  pub header : Fields (byte s 0) (byte s 1) (byte s 2) (byte s 3)
+  pub sides : eastEnd s .number ≡ 0
+  pub end : length s ≤ eastEnd s .at
+  pub lone : loneNet (pinsIn (found s)) ≡ 0
+  pub whole : ticketOf s ≡ acceptedTicket s (netCount (pinsIn (found s))) (found s)
 
-passed : (s : List ℕ) → readOf s .number ≡ 0 → Read s
+pub passed : (s : List ℕ) → readOf s .number ≡ 0 → Read s
 unfolding ticketOf headerOf
 passed s e =
     let a = stage (headerOf s) _ e in
@@ -114,6 +115,7 @@ passed s e =
     record {
       header = fields-good _ _ _ _ (one .1);
       sides = b .0;
+      end = leb-true _ _ (unless-good (leb (length s) (eastEnd s .at)) 8 _ _ (λ q. omega arith) (c .0) .0);
       lone = eqb-true _ _ (unless-good (eqb (loneNet (pinsIn (found s))) 0) 9 _ _ (λ q. omega arith) (d .0) .0);
       whole = a .1 ∙ b .1 ∙ c .1 ∙ d .1;
     }
@@ -123,7 +125,7 @@ passed s e =
 off : (b k : ℕ) → b < 2 ^ k → isOn b k ≡ false
 off b k h = rw (div-eq-of-lt h)
 
-byte2-fits : (kind : ℕ) {w : ℕ} → w ≤ largestByte2 kind → w ≤ longestSide
+pub byte2-fits : (kind : ℕ) {w : ℕ} → w ≤ largestByte2 kind → w ≤ longestSide
 byte2-fits kind h = split (eqb kind box) (λ e. rw e at h) (λ e. omega (arith, rw e at h))
 
 module _ (s : List ℕ) (r : Read s) where

@@ -7,3 +7,4 @@ pub mod Placed
 pub mod Spans
 pub mod Seconds
 pub mod Good
+pub mod Longest

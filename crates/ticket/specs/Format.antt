@@ -4,6 +4,7 @@
 --   mostTrunkLayers      "h, the number of trunk (horizontal) layers, 1 to 8"
 --   largestByte2 kind    "Byte 2: for a box, w, 1 to 90; otherwise h"
 --   largestSideMap kind  "bits 4 to 7 zero. A row may have bit 0, a channel bits 0 and 1, a box all four": these are the numbers up to 1, 3 and 15
+--   longestTicket        "A ticket has at most 412 bytes."
 --   isOn b k             bit k of the byte b stands
 --   stands s from a      place a has a pin, by the position map at byte from; "Place i is bit (i - 1) mod 8 of byte (i - 1) div 8"
 --   standing s from p    how many of the places 1 to p have a pin; "The number of standing bits of a map"
@@ -41,6 +42,9 @@ largestByte2 kind = cond (eqb kind box) longestSide mostTrunkLayers
 
 abbrev pub largestSideMap : ℕ → ℕ
 largestSideMap kind = cond (eqb kind row) 1 (cond (eqb kind channel) 3 15)
+
+abbrev pub longestTicket : ℕ
+longestTicket = 412
 
 abbrev pub isOn : ℕ → ℕ → Bool
 isOn b k = eqb (b / 2 ^ k % 2) 1

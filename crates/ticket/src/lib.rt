@@ -17,6 +17,9 @@ pub const MOST_TRUNK_LAYERS: usize = 8;
 
 pub const TOP_NET: usize = 180;
 
+// Read accepts no longer list, and one byte more than this of any list tells its whole reading: `longest`, `first-bytes` of proofs/Longest.
+pub const LONGEST_TICKET: usize = 412;
+
 // Where reading stands: number 0 and the next byte to read, or a refusal's number and place.
 struct Cursor {
     pub number: u8,

@@ -12,8 +12,8 @@ slice-aggregate-read-full c = search needs
 read-full-requires : tie.Need-read-full-requires
 read-full-requires c κs = search needs
 
-array-share-prefix-ticket : tie.Need-array-share-prefix-ticket
-array-share-prefix-ticket c = search needs
+array-share-prefix-bytes : tie.Need-array-share-prefix-bytes
+array-share-prefix-bytes c = search needs
 
 slice-aggregate-survey-line : tie.Need-slice-aggregate-survey-line
 slice-aggregate-survey-line c = search needs
@@ -28,7 +28,9 @@ array-share-prefix-out : tie.Need-array-share-prefix-out
 array-share-prefix-out c = search needs
 
 slice-aggregate-write-all : tie.Need-slice-aggregate-write-all
-slice-aggregate-write-all c = sym (length-take-le _ _ (omega (arith, c .before .before .survey-line .ensures .short, c .before .before .survey-line .kept .1 .0)))
+slice-aggregate-write-all c =
+    let line = c .before .before .survey-line in
+    sym (length-take-le _ _ (omega (arith, line .ensures .short, line .kept .1 .0)))
 
 write-all-requires : tie.Need-write-all-requires
 write-all-requires c κs = search needs
@@ -42,7 +44,7 @@ main-spec =
     (tie.spec
     slice-aggregate-read-full
     read-full-requires
-    array-share-prefix-ticket
+    array-share-prefix-bytes
     slice-aggregate-survey-line
     slice-aggregate-survey-line-2
     survey-line-requires
