@@ -11,7 +11,7 @@ use borrow.Author.Tests.{eq-eqb, ne-eqb}
 use Rattle.counting.specs.Counting.{In}
 use Rattle.grid.specs.Grid.{upright, Side, north, south, west, east, point, Inside}
 use Rattle.grid.specs.Legal.{topNet, wiringOf, entry, pinsOf}
-use Rattle.grid.specs.View.{longestSide, mostLayers}
+use Rattle.grid.specs.Limits.{longestSide, mostLayers}
 use Rattle.paint.specs.Paint.{Drawn}
 use Rattle.paint.specs.Laid.{Laid}
 use Rattle.paint.proofs.Laws.{drawn-wiring}

@@ -10,7 +10,7 @@ use lib.ListN.{length, getD}
 use Rattle.counting.specs.Counting.{In}
 use Rattle.grid.specs.Grid.{upright}
 use Rattle.grid.specs.Legal.{Pins, topNet, pinsOf}
-use Rattle.grid.specs.View.{longestSide}
+use Rattle.grid.specs.Limits.{longestSide}
 use Rattle.density.specs.Density.{across}
 
 abbrev pub columnPins : List ℕ → List ℕ → Pins

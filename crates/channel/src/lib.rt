@@ -5,7 +5,7 @@ ghost use Prim.Native.Nat.{ℕ, suc, _+_, _*_, _-_, _/_, _%_, _≤_};
 ghost use lib.ListN.{length, getD, take};
 ghost use Rattle.grid.specs.Grid.{upright, point, Inside};
 ghost use Rattle.grid.specs.Legal.{topNet, index, wiringOf};
-ghost use Rattle.grid.specs.View.{longestSide, mostLayers};
+ghost use Rattle.grid.specs.Limits.{longestSide, mostLayers};
 ghost use Rattle.paint.specs.Paint.{Painted, Drawn};
 ghost use Rattle.paint.specs.Laid.{Laid};
 ghost use Rattle.channel_law.specs.Drawing.{Trunks as TrunksIn};

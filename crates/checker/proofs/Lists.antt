@@ -10,7 +10,7 @@ use lib.Seq.{getD-set-same, getD-set-other}
 use Rattle.counting.specs.Counting.{In}
 use Rattle.grid.specs.Grid.{Grid, Side, north, south, west, east, places}
 use Rattle.grid.specs.Legal.{box, topNet, entry}
-use Rattle.grid.specs.View.{longestSide}
+use Rattle.grid.specs.Limits.{longestSide}
 use Rattle.ticket.specs.Format.{pinsIn}
 use Rattle.ticket.specs.Good.{Good, gridIn}
 use Rattle.ticket.specs.declared.Pins.{Pins as TicketPins}

@@ -11,7 +11,7 @@ use lib.ListN.{length}
 use borrow.Author.Tests.{eq-eqb, ne-eqb, eqb-true, leb-true}
 use Rattle.counting.specs.Counting.{In}
 use Rattle.grid.specs.Legal.{box}
-use Rattle.grid.specs.View.{longestSide, mostLayers, within}
+use Rattle.grid.specs.Limits.{longestSide, mostLayers, within}
 use Rattle.ticket.specs.Format.{pinsIn}
 use Rattle.ticket.specs.Good.{Good}
 use Rattle.ticket.specs.Read.{ticketOf}

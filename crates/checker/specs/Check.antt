@@ -24,7 +24,7 @@ use lib.ListN.{length, getD}
 use Rattle.counting.specs.Counting.{In}
 use Rattle.grid.specs.Grid.{Grid, Side, Node, places}
 use Rattle.grid.specs.Legal.{Pins, Wiring, Held, Linked, Legal, GridOf, box, wiringOf}
-use Rattle.grid.specs.View.{longestSide, mostLayers, within}
+use Rattle.grid.specs.Limits.{longestSide, mostLayers, within}
 use Rattle.ticket.specs.Format.{pinsIn}
 use Rattle.ticket.specs.declared.ReadAnswer.{ReadAnswer}
 use Rattle.ticket.specs.declared.Ticket.{Ticket}

@@ -24,7 +24,7 @@ use lib.ListN.{length}
 use Rattle.counting.specs.Counting.{In}
 use Rattle.grid.specs.Grid.{Grid, Side, places}
 use Rattle.grid.specs.Legal.{Pins, topNet}
-use Rattle.grid.specs.View.{longestSide}
+use Rattle.grid.specs.Limits.{longestSide}
 use Rattle.sweep.specs.Marks.{at, Spot, val, two, Settled}
 use Rattle.sweep.specs.Edges.{gridOf, pinAt, Edges}
 use Rattle.sweep.specs.declared.Frame.{Frame}

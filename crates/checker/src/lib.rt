@@ -8,7 +8,7 @@ ghost use mathlib.Core.Path.{_≡_};
 ghost use mathlib.Core.Bool.{_&&_};
 ghost use Prim.Native.Nat.{ℕ, _*_, _≤_, _<_};
 ghost use lib.ListN.{length};
-ghost use Rattle.grid.specs.View.{longestSide, mostLayers, within};
+ghost use Rattle.grid.specs.Limits.{longestSide, mostLayers, within};
 ghost use Rattle.ticket.specs.Read.{ticketOf};
 ghost use Rattle.sweep.specs.Marks.{at};
 ghost use Rattle.sweep.specs.Edges.{gridOf, Fits};

@@ -10,7 +10,7 @@ use lib.ListN.{length}
 use borrow.Author.Tests.{eqb-true, leb-true}
 use Rattle.counting.specs.Counting.{In}
 use Rattle.grid.specs.declared.Refusal.{Refusal}
-use Rattle.grid.specs.View.{longestSide, mostLayers, within, refusal, unless, viewRefusal}
+use Rattle.grid.specs.Limits.{longestSide, mostLayers, within, refusal, unless, viewRefusal}
 
 pub area-le : (n w : ℕ) → n ≤ longestSide → w ≤ longestSide → n * w ≤ 8100
 area-le n w a b = mul-le-mul a b

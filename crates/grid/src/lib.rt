@@ -4,7 +4,7 @@ ghost use mathlib.Core.Bool.{_&&_};
 ghost use Prim.Native.Nat.{_*_, _≤_};
 ghost use Rattle.grid.specs.Grid.{upright, point, Inside};
 ghost use Rattle.grid.specs.Legal.{index};
-ghost use Rattle.grid.specs.View.{longestSide, mostLayers, within, viewRefusal, viewPart};
+ghost use Rattle.grid.specs.Limits.{longestSide, mostLayers, within, viewRefusal, viewPart};
 
 // A count or a number of columns, of tracks, of layers: never added or compared with each other,
 // and opened only in the formulas of this file.

@@ -9,7 +9,7 @@ use borrow.Author.Tests.{eq-eqb, ne-eqb}
 use Rattle.grid.specs.declared.Refusal.{Refusal}
 use Rattle.grid.specs.Grid.{upright}
 use Rattle.grid.specs.Legal.{index}
-use Rattle.grid.specs.View.{viewRefusal, viewPart}
+use Rattle.grid.specs.Limits.{viewRefusal, viewPart}
 use Rattle.grid.proofs.Sizes.{Viewed, viewed as accepted}
 use Rattle.pozqaben.specs.Answers.{viewed, viewStart, viewLength, viewEntries}
 

@@ -20,7 +20,7 @@ use lib.Dec.{eqb, leb}
 use lib.ListN.{length, getD, drop}
 use Rattle.grid.specs.Grid.{upright}
 use Rattle.grid.specs.Legal.{index}
-use Rattle.grid.specs.View.{viewRefusal}
+use Rattle.grid.specs.Limits.{viewRefusal}
 use Rattle.ticket.specs.declared.ReadAnswer.{ReadAnswer}
 use Rattle.survey.specs.declared.SurveyAnswer.{SurveyAnswer}
 use Rattle.router.specs.declared.LayAnswer.{LayAnswer}

@@ -12,7 +12,7 @@ ghost use mathlib.Core.Bool.{true, false};
 ghost use mathlib.Core.List.{_++_};
 ghost use Prim.Native.Nat.{_≤_};
 ghost use lib.ListN.{length, take, drop};
-ghost use Rattle.grid.specs.View.{viewPart};
+ghost use Rattle.grid.specs.Limits.{viewPart};
 ghost use Rattle.ticket.specs.Read.{ticketOf, readOf};
 ghost use Rattle.survey.specs.Survey.{surveyOf};
 ghost use Rattle.router.specs.Lay.{layOf};

@@ -15,7 +15,7 @@ use Rattle.counting.specs.Counting.{In, ceil, bit}
 use Rattle.counting.proofs.Counts.{ceil-le, round-up}
 use Rattle.grid.specs.Grid.{Grid, upright, Side, north, south, west, east}
 use Rattle.grid.specs.Legal.{Pins, Wiring, Legal, GridOf, row, channel, box, entry}
-use Rattle.grid.specs.View.{longestSide, mostLayers}
+use Rattle.grid.specs.Limits.{longestSide, mostLayers}
 use Rattle.grid.proofs.Sizes.{Sized}
 use Rattle.density.specs.Density.{across, up, horizontals, tracksFor, floorOf}
 use Rattle.density.proofs.Layers.{horizontals-are}

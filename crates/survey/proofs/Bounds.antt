@@ -12,7 +12,7 @@ use Rattle.counting.specs.Counting.{In, ceil}
 use Rattle.counting.proofs.Counts.{count-le, most-le, ceil-le}
 use Rattle.grid.specs.Grid.{Grid, upright}
 use Rattle.grid.specs.Legal.{Pins, topNet, nets, box, pinsOf}
-use Rattle.grid.specs.View.{longestSide}
+use Rattle.grid.specs.Limits.{longestSide}
 use Rattle.density.specs.Density.{pinOn, hasPin, passes, passesAt, across, up}
 use Rattle.density.proofs.Tracks.{up-turned}
 use Rattle.ticket.specs.declared.Ticket.{Ticket}

@@ -15,7 +15,7 @@ use Rattle.counting.specs.Counting.{In, bit, count, some}
 use Rattle.counting.proofs.Sums.{bit-one, bit-zero, sum-more}
 use Rattle.counting.proofs.Counts.{count-le}
 use Rattle.grid.specs.Legal.{topNet, entry}
-use Rattle.grid.specs.View.{longestSide}
+use Rattle.grid.specs.Limits.{longestSide}
 use Rattle.survey.specs.Flags.{at, lacks, nowhere, also, held, reached, past, Lacks, Ended}
 
 -- ---- a flag for each net number

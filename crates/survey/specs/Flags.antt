@@ -20,7 +20,7 @@ use lib.Dec.{eqb, leb}
 use lib.ListN.{length, getD}
 use Rattle.counting.specs.Counting.{bit, some}
 use Rattle.grid.specs.Legal.{topNet, entry}
-use Rattle.grid.specs.View.{longestSide}
+use Rattle.grid.specs.Limits.{longestSide}
 
 abbrev pub at : List ℕ → ℕ → ℕ
 at list i = getD list i 0

@@ -12,7 +12,7 @@ ghost use lib.ListN.{length, take, drop};
 ghost use Rattle.counting.specs.Counting.{In, ceil};
 ghost use Rattle.grid.specs.Grid.{upright};
 ghost use Rattle.grid.specs.Legal.{topNet, entry, pinsOf, nets};
-ghost use Rattle.grid.specs.View.{longestSide};
+ghost use Rattle.grid.specs.Limits.{longestSide};
 ghost use Rattle.density.specs.Density.{across, tracksFor, floor};
 ghost use Rattle.ticket.specs.Good.{Good};
 ghost use Rattle.survey.specs.Flags.{at, nowhere, held, Lacks, Ended};

@@ -24,7 +24,7 @@ use mathlib.Core.Logic.{_⊎_}
 use mathlib.Core.List.{List}
 use lib.Dec.{ltb, eqb}
 use Rattle.grid.specs.Grid.{Grid, Side, north, south, west, east}
-use Rattle.grid.specs.View.{longestSide, mostLayers}
+use Rattle.grid.specs.Limits.{longestSide, mostLayers}
 use Rattle.counting.specs.Counting.{In}
 use Rattle.sweep.specs.Marks.{at, Spot, a-pin, a-point, Shut}
 use Rattle.sweep.specs.declared.Frame.{Frame}

@@ -12,7 +12,7 @@ use Rattle.counting.specs.Counting.{In, ceil}
 use Rattle.counting.proofs.Counts.{count-same, count-le, ceil-le, round-up}
 use Rattle.grid.specs.Grid.{Side, north, south, west, east}
 use Rattle.grid.specs.Legal.{topNet, entry, pinsOf}
-use Rattle.grid.specs.View.{longestSide}
+use Rattle.grid.specs.Limits.{longestSide}
 use Rattle.switchbox_law.specs.Rules.{Tally, tally, pair, alternate, wanted, needsTrack, diagonal, needsColumn}
 use Rattle.switchbox_law.specs.Drawing.{Lanes, BoxLaid}
 use Rattle.switchbox_law.proofs.Enough.{enough-tracks, enough-columns}

@@ -11,7 +11,7 @@ use lib.Seq.{getD-take, getD-drop, length-take-le}
 use borrow.Author.Tests.{eqb-true, eqb-false}
 use Rattle.counting.proofs.Sums.{split}
 use Rattle.grid.specs.Legal.{Wiring, entry, pinsOf}
-use Rattle.grid.specs.View.{longestSide}
+use Rattle.grid.specs.Limits.{longestSide}
 use Rattle.switchbox_law.specs.Drawing.{BoxDrawing}
 use Rattle.switchbox_law.proofs.FullLines.{drawn}
 use Rattle.switchbox.specs.Layers.{PaintedAs, DrawnAs, trackLines, Lined}

@@ -12,7 +12,7 @@ use borrow.Author.Tests.{lt-ltb, le-ltb}
 use Rattle.counting.specs.Counting.{In, ceil}
 use Rattle.grid.specs.Grid.{upright, lying, Side, north, south, west, east, Node, pin, point, places, Inside}
 use Rattle.grid.specs.Legal.{Wiring, holds, Legal, topNet, entry, wiringOf, pinsOf}
-use Rattle.grid.specs.View.{longestSide}
+use Rattle.grid.specs.Limits.{longestSide}
 use Rattle.grid.proofs.Motion.{turn, movedPins}
 use Rattle.grid.proofs.Motions.{legal-same, moved-back, turn-over, turn-back}
 use Rattle.paint.specs.Paint.{Drawn}

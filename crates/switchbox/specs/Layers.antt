@@ -14,7 +14,7 @@ use mathlib.Core.List.{List, []}
 use mathlib.Core.Bool.{Bool, true, false}
 use lib.ListN.{length}
 use Rattle.grid.specs.Legal.{Wiring, Legal, entry, pinsOf}
-use Rattle.grid.specs.View.{longestSide}
+use Rattle.grid.specs.Limits.{longestSide}
 use Rattle.counting.specs.Counting.{ceil}
 use Rattle.switchbox_law.specs.Drawing.{BoxLaid}
 use Rattle.switchbox_law.proofs.FullLines.{fullLines}

@@ -10,7 +10,7 @@ use lib.ListN.{length, getD}
 use Rattle.counting.specs.Counting.{In, ceil}
 use Rattle.grid.specs.Grid.{Grid}
 use Rattle.grid.specs.Legal.{topNet}
-use Rattle.grid.specs.View.{longestSide}
+use Rattle.grid.specs.Limits.{longestSide}
 
 abbrev pub boxLayers : ℕ → ℕ → ℕ
 boxLayers n w = 2 * ceil (max n w) (min n w) + 4

@@ -16,7 +16,7 @@ use Rattle.counting.specs.Counting.{In}
 use Rattle.counting.proofs.Sums.{split}
 use Rattle.grid.specs.Grid.{Grid, Side, north, south, west, east, places, upright}
 use Rattle.grid.specs.Legal.{Pins as GridPins, topNet, row, channel, box, entry}
-use Rattle.grid.specs.View.{longestSide}
+use Rattle.grid.specs.Limits.{longestSide}
 use Rattle.grid.proofs.Pins.{Bare}
 use Rattle.ticket.proofs.Flags.{le-or-lt}
 use Rattle.ticket.proofs.Bits.{standing-below, pin-stands, pin-empty, pin-past, pin-off}

@@ -12,7 +12,7 @@ use lib.Dec.{leb, ltb, eqb}
 use lib.ListN.{length}
 use borrow.Author.Tests.{lt-ltb, le-ltb, eq-eqb, ne-eqb, leb-true}
 use Rattle.grid.specs.Legal.{topNet, box}
-use Rattle.grid.specs.View.{longestSide, within}
+use Rattle.grid.specs.Limits.{longestSide, within}
 use Rattle.ticket.specs.Format.{byte, mostTrunkLayers, largestByte2, largestSideMap, least}
 use Rattle.ticket.specs.Read.{refusal, goOn, unless, fieldsOf, headerOf, netsOf, orRefused, refusedTicket}
 use Rattle.ticket.specs.Steps.{Header}

@@ -11,7 +11,7 @@ use lib.ListN.{length, take}
 use lib.Seq.{getD-take, length-take-le, take-all}
 use borrow.Author.Tests.{le-leb, lt-leb, lt-ltb}
 use Rattle.counting.proofs.Counts.{count-same}
-use Rattle.grid.specs.View.{longestSide}
+use Rattle.grid.specs.Limits.{longestSide}
 use Rattle.ticket.proofs.Bits.{standing-le}
 use Rattle.ticket.proofs.Flags.{le-or-lt}
 use Rattle.ticket.proofs.Good.{passed, byte2-fits}

@@ -11,7 +11,7 @@ use lib.ListN.{getD}
 use borrow.Author.Tests.{le-leb, lt-leb}
 use Rattle.counting.specs.Counting.{bit}
 use Rattle.counting.proofs.Sums.{split, bit-one, bit-zero, sum-more}
-use Rattle.grid.specs.View.{longestSide}
+use Rattle.grid.specs.Limits.{longestSide}
 use Rattle.ticket.proofs.Bits.{at-place, bit-mod, standing-below, standing-le, full-standing, full-stands, pin-stands, pin-empty, pin-past}
 use Rattle.ticket.proofs.Filled.{getD-listed, listed-same}
 use Rattle.ticket.proofs.Flags.{le-or-lt}

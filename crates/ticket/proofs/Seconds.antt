@@ -12,7 +12,7 @@ use Rattle.counting.proofs.Sums.{bit-one, bit-zero, sum-some, sum-change}
 use Rattle.counting.proofs.Counts.{count-same}
 use Rattle.grid.specs.Grid.{Side, north, south, west, east, Node, pin, point}
 use Rattle.grid.specs.Legal.{Pins}
-use Rattle.grid.specs.View.{longestSide}
+use Rattle.grid.specs.Limits.{longestSide}
 use Rattle.ticket.specs.Format.{pinCount, pinCountOn}
 
 abbrev sideNumber : Side → ℕ

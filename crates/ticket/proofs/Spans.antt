@@ -14,7 +14,7 @@ use Rattle.counting.specs.Counting.{bit, count}
 use Rattle.counting.proofs.Sums.{split, bit-zero, sum-none, sum-more, sum-zero}
 use Rattle.counting.proofs.Counts.{count-same, count-le}
 use Rattle.grid.specs.Legal.{entry}
-use Rattle.grid.specs.View.{longestSide}
+use Rattle.grid.specs.Limits.{longestSide}
 use Rattle.ticket.proofs.Bits.{standing-one, standing-none, standing-le, pin-stands, pin-empty, pin-past, pin-off}
 use Rattle.ticket.proofs.Filled.{entry-listed}
 use Rattle.ticket.proofs.Laws.{unless-good, nets-good}

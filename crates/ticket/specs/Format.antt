@@ -28,7 +28,7 @@ use lib.Dec.{leb, eqb}
 use Rattle.counting.specs.Counting.{count}
 use Rattle.grid.specs.Grid.{Side, north, south, west, east}
 use Rattle.grid.specs.Legal.{Pins as GridPins, topNet, nets, row, channel, box, pinsOf}
-use Rattle.grid.specs.View.{longestSide}
+use Rattle.grid.specs.Limits.{longestSide}
 use Rattle.ticket.specs.declared.Pins.{Pins}
 
 abbrev pub byte : List ℕ → ℕ → ℕ

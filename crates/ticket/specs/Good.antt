@@ -10,7 +10,7 @@ use lib.ListN.{length}
 use Rattle.counting.specs.Counting.{In}
 use Rattle.grid.specs.Grid.{Grid, Side, south, west, east, pin, places, upright}
 use Rattle.grid.specs.Legal.{Pins as GridPins, topNet, row, box}
-use Rattle.grid.specs.View.{longestSide}
+use Rattle.grid.specs.Limits.{longestSide}
 use Rattle.ticket.specs.declared.Ticket.{Ticket}
 use Rattle.ticket.specs.Format.{mostTrunkLayers, pinsIn, netCount}
 

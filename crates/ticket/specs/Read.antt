@@ -26,7 +26,7 @@ use mathlib.Core.List.{List}
 use lib.ListN.{length, replicate}
 use lib.Dec.{ltb, leb, eqb}
 use Rattle.grid.specs.Legal.{Pins as GridPins, topNet, box}
-use Rattle.grid.specs.View.{longestSide, within}
+use Rattle.grid.specs.Limits.{longestSide, within}
 use Rattle.ticket.specs.Format.{byte, largestByte2, largestSideMap, isOn, standing, mapBytes, goodMap, sideNets, pinsIn, netCount, loneNet}
 use Rattle.ticket.specs.declared.Cursor.{Cursor}
 use Rattle.ticket.specs.declared.Ends.{Ends}

@@ -13,7 +13,7 @@ use mathlib.Core.List.{List}
 use lib.ListN.{length}
 use lib.Dec.{leb, eqb}
 use Rattle.counting.specs.Counting.{In, count}
-use Rattle.grid.specs.View.{longestSide}
+use Rattle.grid.specs.Limits.{longestSide}
 use Rattle.ticket.specs.Format.{byte, isOn, standing, mapBytes, goodMap, listed}
 use Rattle.ticket.specs.declared.Ends.{Ends}
 

@@ -6,7 +6,7 @@ use native.Mathlib.Nat.{add-sub-cancel-left}
 use borrow.Author.Tests.{eq-eqb, ne-eqb}
 use Rattle.grid.specs.declared.Refusal.{Refusal}
 use Rattle.grid.specs.Grid.{upright}
-use Rattle.grid.specs.View.{viewPart}
+use Rattle.grid.specs.Limits.{viewPart}
 use Rattle.grid.proofs.Buffer.{layer-in}
 use Rattle.grid.proofs.Sizes.{points-le, viewed}
 use Rattle.grid.proofs.layer_view.Statement.{statement}

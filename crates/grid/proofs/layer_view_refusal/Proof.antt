@@ -2,7 +2,7 @@
 use borrow.Author.Needs.{needs}
 use mathlib.Core.Path.{sym, _∙_}
 use borrow.Author.Tests.{not-true, not-false, eq-eqb, ne-eqb}
-use Rattle.grid.specs.View.{viewRefusal}
+use Rattle.grid.specs.Limits.{viewRefusal}
 use Rattle.grid.proofs.Sizes.{sized}
 use Rattle.grid.proofs.layer_view_refusal.Statement.{statement}
 use Rattle.grid.proofs.layer_view_refusal.Tie as tie

@@ -2,7 +2,7 @@
 use mathlib.Core.Path.{_∙_}
 use borrow.Author.Needs.{needs}
 use Rattle.counting.specs.Counting.{In}
-use Rattle.grid.specs.View.{longestSide}
+use Rattle.grid.specs.Limits.{longestSide}
 use Rattle.survey.proofs.Bounds.{byte2-in, trunks-by, box-by}
 use Rattle.survey.specs.Survey.{figuresOf}
 use Rattle.survey.proofs.figures.Statement.{statement}

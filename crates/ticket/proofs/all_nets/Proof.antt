@@ -5,7 +5,7 @@ use mathlib.Core.Path.{_≡_, sym, ap, _∙_}
 use native.Mathlib.Omega.{arith}
 use denote.Ref.{now}
 use borrow.Author.Needs.{needs}
-use Rattle.grid.specs.View.{within}
+use Rattle.grid.specs.Limits.{within}
 use Rattle.grid.specs.Legal.{topNet}
 use Rattle.ticket.proofs.Laws.{both, nets-start, nets-pass, nets-passed}
 use Rattle.ticket.specs.Read.{netsOf}

@@ -4,7 +4,7 @@ use mathlib.Core.Path.{_≡_, sym, ap, _∙_, refl}
 use native.Mathlib.Omega.{arith}
 use lib.ListN.{length}
 use borrow.Author.Needs.{needs}
-use Rattle.grid.specs.View.{within}
+use Rattle.grid.specs.Limits.{within}
 use Rattle.grid.specs.Legal.{topNet}
 use Rattle.ticket.proofs.Laws.{at-refused, at-going, nets-end, nets-missing, nets-bad, nets-more}
 use Rattle.ticket.proofs.Flags.{failed, passed}
