@@ -1,13 +1,13 @@
-// The grid's three counts, where a buffer holds a point, and the view of one layer.
+// The grid's three counts, and where a buffer holds a point.
 ghost use mathlib.Core.Path.{_≡_};
 ghost use mathlib.Core.Bool.{_&&_};
 ghost use Prim.Native.Nat.{_*_, _≤_};
 ghost use Rattle.grid.specs.Grid.{upright, point, Inside};
 ghost use Rattle.grid.specs.Legal.{index};
-ghost use Rattle.grid.specs.Limits.{longestSide, mostLayers, within, viewRefusal, viewPart};
+ghost use Rattle.grid.specs.Limits.{longestSide, mostLayers, within};
 
 // A count or a number of columns, of tracks, of layers: never added or compared with each other,
-// and opened only in the formulas of this file.
+// and opened only where a formula or a test of its range takes one.
 pub struct Column(pub usize);
 
 pub struct Track(pub usize);
@@ -72,46 +72,4 @@ pub fn is_grid(n: Column, w: Track, k: Layer) -> bool
         return false;
     }
     is_within(k.0, MOST_LAYERS)
-}
-
-// Layer view's number and place.
-pub fn layer_view_refusal(wiring: &[u8], n: Column, w: Track, k: Layer, layer: Layer) -> Refusal
-    ensures { λ r. ⌜ r ≡ viewRefusal (now (wiring .entry)) (n .0) (w .0) (k .0) (layer .0) ⌝ }
-{
-    if !is_grid(n, w, k) {
-        return Refusal {
-            number: 11,
-            place: 0,
-        };
-    }
-    let size = points(n, w, k);
-    if wiring.len() != size {
-        return Refusal {
-            number: 12,
-            place: size,
-        };
-    }
-    if !is_within(layer.0, k.0) {
-        return Refusal {
-            number: 16,
-            place: layer.0,
-        };
-    }
-    Refusal {
-        number: 0,
-        place: 0,
-    }
-}
-
-// Layer view's part of the wiring, empty where layer_view_refusal refuses.
-pub fn layer_view(wiring: &[u8], n: Column, w: Track, k: Layer, layer: Layer) -> &[u8]
-    ensures { λ r. ⌜ now r ≡ viewPart (now (wiring .entry)) (n .0) (w .0) (k .0) (layer .0) ⌝ }
-{
-    let refusal = layer_view_refusal(wiring, n, w, k, layer);
-    if refusal.number != 0 {
-        return &wiring[..0];
-    }
-    let from = index_of(Column(1), Track(1), layer, n, w, k);
-    let to = from + area(n, w);
-    &wiring[from..to]
 }

@@ -7,20 +7,16 @@
 --   layEntries a               Lay's answer: number, place, kind, n, w, k, first, nets, across, up, floor
 --   checkEntries a             Check's answer: number, place
 --   checkTold array            the answer that these two entries tell
---   viewed x n w k l           the layer is not refused
---   viewStart, viewLength      where Layer view's part starts in the wiring, and its length; 0 and 0 when refused
 --   viewEntries x n w k l      Layer view's answer: number, place, start, length
 --   Answered entries b r a     the call returns r and leaves the array a, which was b: no where b has fewer places than there are entries, and then b as
 --                              it was; else yes, the entries, and past those b as it was
-use Prim.Native.Nat.{ℕ, _*_}
+use Prim.Native.Nat.{ℕ}
 use mathlib.Core.Path.{_≡_}
 use mathlib.Core.Bool.{Bool, cond}
 use mathlib.Core.List.{List, [], _∷_, _++_}
-use lib.Dec.{eqb, leb}
+use lib.Dec.{leb}
 use lib.ListN.{length, getD, drop}
-use Rattle.grid.specs.Grid.{upright}
-use Rattle.grid.specs.Legal.{index}
-use Rattle.grid.specs.Limits.{viewRefusal}
+use Rattle.view.specs.View.{viewRefusal, viewStart, viewLength}
 use Rattle.ticket.specs.declared.ReadAnswer.{ReadAnswer}
 use Rattle.survey.specs.declared.SurveyAnswer.{SurveyAnswer}
 use Rattle.router.specs.declared.LayAnswer.{LayAnswer}
@@ -46,15 +42,6 @@ checkEntries a = a .number ∷ a .place ∷ []
 
 abbrev pub checkTold : List ℕ → CheckAnswer
 checkTold array = record { number = getD array 0 0; place = getD array 1 0 }
-
-abbrev pub viewed : List ℕ → ℕ → ℕ → ℕ → ℕ → Bool
-viewed x n w k l = eqb (viewRefusal x n w k l .number) 0
-
-abbrev pub viewStart : List ℕ → ℕ → ℕ → ℕ → ℕ → ℕ
-viewStart x n w k l = cond (viewed x n w k l) (index (upright n w k) 1 1 l) 0
-
-abbrev pub viewLength : List ℕ → ℕ → ℕ → ℕ → ℕ → ℕ
-viewLength x n w k l = cond (viewed x n w k l) (n * w) 0
 
 abbrev pub viewEntries : List ℕ → ℕ → ℕ → ℕ → ℕ → List ℕ
 viewEntries x n w k l =

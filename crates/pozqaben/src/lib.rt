@@ -12,13 +12,13 @@ ghost use mathlib.Core.Bool.{true, false};
 ghost use mathlib.Core.List.{_++_};
 ghost use Prim.Native.Nat.{_≤_};
 ghost use lib.ListN.{length, take, drop};
-ghost use Rattle.grid.specs.Limits.{viewPart};
+ghost use Rattle.view.specs.View.{viewStart, viewLength, viewPart};
 ghost use Rattle.ticket.specs.Read.{ticketOf, readOf};
 ghost use Rattle.survey.specs.Survey.{surveyOf};
 ghost use Rattle.router.specs.Lay.{layOf};
 ghost use Rattle.checker.specs.Check.{Checked};
 ghost use Rattle.pozqaben.specs.Lays.{Lays};
-ghost use Rattle.pozqaben.specs.Answers.{bit, readEntries, surveyEntries, layEntries, checkEntries, checkTold, viewStart, viewLength, viewEntries, Answered};
+ghost use Rattle.pozqaben.specs.Answers.{bit, readEntries, surveyEntries, layEntries, checkEntries, checkTold, viewEntries, Answered};
 
 // Stores the entries at the array's start.
 fn put(answer: &mut [u64], entries: &[u64])
@@ -157,7 +157,7 @@ pub extern "C" fn pozqaben_check(
 fn view_entries(wiring: &[u8], n: Column, w: Track, k: Layer, layer: Layer) -> [u64; 4]
     ensures { λ r. ⌜ r ≡ viewEntries (now (wiring .entry)) (n .0) (w .0) (k .0) (layer .0) ⌝ }
 {
-    let refusal = grid::layer_view_refusal(wiring, n, w, k, layer);
+    let refusal = view::layer_view_refusal(wiring, n, w, k, layer);
     if refusal.number != 0 {
         return [refusal.number as u64, refusal.place as u64, 0, 0];
     }

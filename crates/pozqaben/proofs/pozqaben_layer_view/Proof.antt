@@ -1,12 +1,12 @@
 -- `pozqaben::pozqaben_layer_view` meets its contract: it stores what `view_entries` gives.
+use mathlib.Core.Path.{refl}
 use borrow.Author.Needs.{needs}
 use Rattle.pozqaben.proofs.Storing.{answered, unanswered}
-use Rattle.pozqaben.proofs.Views.{part-named}
 use Rattle.pozqaben.proofs.pozqaben_layer_view.Statement.{statement}
 use Rattle.pozqaben.proofs.pozqaben_layer_view.Tie as tie
 
 returns : tie.Need-returns
-returns c = (unanswered _ _ (c .if1 .taken), part-named _ _ _ _ _)
+returns c = (unanswered _ _ (c .if1 .taken), refl)
 
 view-entries-requires : tie.Need-view-entries-requires
 view-entries-requires c κs = search needs
@@ -21,7 +21,7 @@ same-length : tie.Need-same-length
 same-length c = search needs
 
 returns-2 : tie.Need-returns-2
-returns-2 c = (answered (c .before .before .before .before .before .view-entries .ensures) (c .before .before .before .before .before .before .if1 .left) (c .before .before .put .ensures), part-named _ _ _ _ _)
+returns-2 c = (answered (c .before .before .before .before .before .view-entries .ensures) (c .before .before .before .before .before .before .if1 .left) (c .before .before .put .ensures), refl)
 
 pub pozqaben-layer-view-spec : {M : Type 1} → statement M
 pozqaben-layer-view-spec =

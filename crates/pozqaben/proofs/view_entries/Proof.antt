@@ -1,7 +1,8 @@
 -- `pozqaben::view_entries` meets its contract: a view that is not refused has counts for which start and length are defined.
 use borrow.Author.Needs.{needs}
 use native.Mathlib.Omega.{arith}
-use Rattle.pozqaben.proofs.Views.{seen, entries-refused, entries-seen}
+use Rattle.view.proofs.Views.{seen}
+use Rattle.pozqaben.proofs.Views.{entries-refused, entries-seen}
 use Rattle.pozqaben.proofs.view_entries.Statement.{statement}
 use Rattle.pozqaben.proofs.view_entries.Tie as tie
 
