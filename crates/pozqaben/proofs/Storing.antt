@@ -1,7 +1,7 @@
 -- An array whose first entries have been stored, one by one; and the two ways in which a call answers.
 use Prim.Native.Nat.{ℕ, _+_, _≤_, _<_}
-use mathlib.Core.Path.{_≡_, refl, sym, ap, _∙_}
-use mathlib.Core.Bool.{true, false}
+use mathlib.Core.Path.{_≡_, refl, sym}
+use mathlib.Core.Bool.{Bool, true, false}
 use mathlib.Core.List.{List, _++_}
 use native.Mathlib.Nat.{zero-add}
 use native.Mathlib.Numerals.{add-one}
@@ -9,8 +9,10 @@ use native.Mathlib.Omega.{arith}
 use lib.ListN.{length, getD, set, take, drop}
 use lib.Seq.{paste-suc, length-paste, take-length}
 use borrow.Author.Tests.{le-leb, lt-leb}
+use Rattle.ticket.specs.declared.Ticket.{Ticket}
 use Rattle.checker.specs.declared.CheckAnswer.{CheckAnswer}
-use Rattle.pozqaben.specs.Answers.{checkEntries, checkTold, Answered}
+use Rattle.checker.specs.Check.{Checked}
+use Rattle.pozqaben.specs.Answers.{checkEntries, Answered, Tells}
 
 -- the first i of s, and past those what d has
 abbrev pub front : List ℕ → List ℕ → ℕ → List ℕ
@@ -38,6 +40,13 @@ answered {s} {t} {d} {a} e fits kept =
 pub not-both : {A : Type 0} → false ≡ true → A
 not-both e = let z : _≡_ {A = ℕ} 0 1 = cc in absurd (omega arith)
 
--- the two entries that Check stored tell its answer
-pub told : (d : List ℕ) {a : CheckAnswer} {t s : List ℕ} → t ≡ checkEntries a → s ≡ t ++ drop (length t) d → a ≡ checkTold s
-told d e kept = sym (ap checkTold (kept ∙ ap (λ (l : List ℕ). l ++ drop (length l) d) e))
+module _ {t : Ticket} {w k : ℕ} {first : Bool} {x y y′ b : List ℕ} where
+  -- an array without room for two entries is left as it was; no answer is promised then
+  pub untold : length b < 2 → Tells t w k first x y y′ b false b
+  untold short =
+      let none : CheckAnswer = record { number = 0; place = 0 } in
+      record { told = none; entries = unanswered (checkEntries none) b short; checked = λ e. not-both e }
+
+  pub told : {a : CheckAnswer} {s c : List ℕ} → Checked t w k first x y y′ a → s ≡ checkEntries a → 2 ≤ length b → c ≡ s ++ drop (length s) b
+      → Tells t w k first x y y′ b true c
+  told {a} found e fits kept = record { told = a; entries = answered e fits kept; checked = λ _. found }

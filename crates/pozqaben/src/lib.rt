@@ -11,14 +11,13 @@ ghost use mathlib.Core.Path.{_≡_};
 ghost use mathlib.Core.Bool.{true, false};
 ghost use mathlib.Core.List.{_++_};
 ghost use Prim.Native.Nat.{_≤_};
-ghost use lib.ListN.{length, take, drop};
-ghost use Rattle.view.specs.View.{viewStart, viewLength, viewPart};
+ghost use lib.ListN.{length, drop};
+ghost use Rattle.view.specs.View.{viewPart};
 ghost use Rattle.ticket.specs.Read.{ticketOf, readOf};
 ghost use Rattle.survey.specs.Survey.{surveyOf};
 ghost use Rattle.router.specs.Lay.{layOf};
-ghost use Rattle.checker.specs.Check.{Checked};
 ghost use Rattle.pozqaben.specs.Lays.{Lays};
-ghost use Rattle.pozqaben.specs.Answers.{bit, readEntries, surveyEntries, layEntries, checkEntries, checkTold, viewEntries, Answered};
+ghost use Rattle.pozqaben.specs.Answers.{bit, readEntries, surveyEntries, layEntries, checkEntries, viewEntries, partTold, Answered, Tells};
 
 // Stores the entries at the array's start.
 fn put(answer: &mut [u64], entries: &[u64])
@@ -113,9 +112,11 @@ fn lay_entries(a: LayAnswer) -> [u64; 11]
 // Lay: number, place, kind, n, w, k, first, nets, across, up, floor.
 #[no_mangle]
 pub extern "C" fn pozqaben_lay(ticket: &[u8], wiring: &mut [u8], answer: &mut [u64]) -> bool
-    ensures answer { λ r. ⌜ Answered (layEntries (layOf (now (ticket .entry)) (length (now (wiring .entry))))) (now (answer .entry)) r (now (answer .exit)) ⌝ }
+    ensures answer { λ r. ⌜ Answered (layEntries (layOf (now (ticket .entry)) (length (now (wiring .entry))))) (now (answer .entry))
+        r (now (answer .exit)) ⌝ }
     ensures short { λ r. ⌜ (r ≡ false → now (wiring .exit) ≡ now (wiring .entry)) ⌝ }
-    ensures lays { λ r. ⌜ (r ≡ true → Lays (now (ticket .entry)) (layOf (now (ticket .entry)) (length (now (wiring .entry)))) (now (wiring .entry)) (now (wiring .exit))) ⌝ }
+    ensures lays { λ r. ⌜ (r ≡ true → Lays (now (ticket .entry)) (layOf (now (ticket .entry)) (length (now (wiring .entry))))
+        (now (wiring .entry)) (now (wiring .exit))) ⌝ }
 {
     if answer.len() < 11 {
         return false;
@@ -142,9 +143,9 @@ pub extern "C" fn pozqaben_check(
     scratch: &mut [u8],
     answer: &mut [u64],
 ) -> bool
-    ensures answer { λ r. ⌜ Answered (checkEntries (checkTold (now (answer .exit)))) (now (answer .entry)) r (now (answer .exit)) ⌝ }
+    ensures answer { λ r. ⌜ Tells (ticketOf (now (ticket .entry))) w k first (now (wiring .entry)) (now (scratch .entry))
+        (now (scratch .exit)) (now (answer .entry)) r (now (answer .exit)) ⌝ }
     ensures short { λ r. ⌜ (r ≡ false → now (scratch .exit) ≡ now (scratch .entry)) ⌝ }
-    ensures checked { λ r. ⌜ (r ≡ true → Checked (ticketOf (now (ticket .entry))) w k first (now (wiring .entry)) (now (scratch .entry)) (now (scratch .exit)) (checkTold (now (answer .exit)))) ⌝ }
 {
     if answer.len() < 2 {
         return false;
@@ -182,8 +183,7 @@ pub extern "C" fn pozqaben_layer_view(
     answer: &mut [u64],
 ) -> bool
     ensures answer { λ r. ⌜ Answered (viewEntries (now (wiring .entry)) n w k layer) (now (answer .entry)) r (now (answer .exit)) ⌝ }
-    ensures part { λ _. ⌜ viewPart (now (wiring .entry)) n w k layer
-        ≡ take (viewLength (now (wiring .entry)) n w k layer) (drop (viewStart (now (wiring .entry)) n w k layer) (now (wiring .entry))) ⌝ }
+    ensures part { λ r. ⌜ (r ≡ true → partTold (now (wiring .entry)) (now (answer .exit)) ≡ viewPart (now (wiring .entry)) n w k layer) ⌝ }
 {
     if answer.len() < 4 {
         return false;

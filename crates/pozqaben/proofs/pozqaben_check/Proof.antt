@@ -1,47 +1,29 @@
 -- `pozqaben::pozqaben_check` meets its contract: the two entries that it stores tell what `checker::check` answers.
-use mathlib.Core.Path.{refl, sym, ap, _∙_}
+use mathlib.Core.Path.{refl, sym}
 use borrow.Author.Needs.{needs}
-use Rattle.pozqaben.specs.Answers.{checkEntries}
-use Rattle.pozqaben.proofs.Storing.{answered, unanswered, not-both, told}
+use Rattle.pozqaben.proofs.Storing.{told, untold, not-both}
 use Rattle.pozqaben.proofs.pozqaben_check.Statement.{statement}
 use Rattle.pozqaben.proofs.pozqaben_check.Tie as tie
 
 returns : tie.Need-returns
-returns c = (unanswered _ _ (c .if1 .taken), (λ _. refl, λ e. not-both e))
-
-check-requires : tie.Need-check-requires
-check-requires c κs = search needs
-
-check-entries-requires : tie.Need-check-entries-requires
-check-entries-requires c κs = search needs
-
-slice-aggregate-put : tie.Need-slice-aggregate-put
-slice-aggregate-put c = search needs
-
-put-requires : tie.Need-put-requires
-put-requires c κs = search needs
-
-same-length : tie.Need-same-length
-same-length c = search needs
-
-same-length-2 : tie.Need-same-length-2
-same-length-2 c = search needs
+returns c = (untold (search needs), λ _. refl)
 
 returns-2 : tie.Need-returns-2
-returns-2 c = let a = told _ (c .before .before .before .before .before .check-entries .ensures) (c .before .before .put .ensures) in (
-  answered (c .before .before .before .before .before .check-entries .ensures ∙ ap checkEntries a) (c .before .before .before .before .before .before .before .before .before .before .if1 .left) (c .before .before .put .ensures),
-  (λ e. not-both (sym e), λ _. rw (← a) (c .before .before .before .before .before .before .before .before .check .ensures)),
-)
+returns-2 c =
+    let put = c .before .before .put in
+    let c5 = c .before .before .before .before .before in
+    let c8 = c5 .before .before .before in
+    (told (c8 .check .ensures) (c5 .check-entries .ensures) (c8 .before .before .if1 .left) (put .ensures), λ e. not-both (sym e))
 
 pub pozqaben-check-spec : {M : Type 1} → statement M
 pozqaben-check-spec =
     tie.close
     (tie.spec
     returns
-    check-requires
-    check-entries-requires
-    slice-aggregate-put
-    put-requires
-    same-length
-    same-length-2
+    (λ c κs. search needs)
+    (λ c κs. search needs)
+    (λ c. search needs)
+    (λ c κs. search needs)
+    (λ c. search needs)
+    (λ c. search needs)
     returns-2)
