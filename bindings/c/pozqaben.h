@@ -47,6 +47,12 @@ enum {
     POZQABEN_LAYER_VIEW_ENTRIES = 4
 };
 
+/* A ticket's kind. */
+enum { POZQABEN_ROW = 1, POZQABEN_CHANNEL = 2, POZQABEN_BOX = 3 };
+
+/* A ticket that is not refused has no more bytes, and one byte more than this of any bytes tells how they are read. */
+enum { POZQABEN_LONGEST_TICKET = 412 };
+
 /* number, place, kind, n, byte 2, nets */
 bool pozqaben_read(const uint8_t *ticket, size_t ticket_length, uint64_t *answer, size_t answer_length);
 

@@ -17,16 +17,25 @@ static void print_trunks(const char *name, const uint64_t *a) {
 }
 
 int main(void) {
-    uint8_t ticket[1000];
+    uint8_t ticket[POZQABEN_LONGEST_TICKET + 1];
     size_t length = fread(ticket, 1, sizeof ticket, stdin);
     uint64_t answer[POZQABEN_SURVEY_ENTRIES];
     if (!pozqaben_survey(ticket, length, answer, POZQABEN_SURVEY_ENTRIES))
         return 1;
-    if (answer[0] != 0)
+    if (answer[0] != 0) {
         printf("refused %d at %d\n", (int)answer[0], (int)answer[1]);
-    else if (answer[2] == 3)
+        return 0;
+    }
+    switch (answer[2]) {
+    case POZQABEN_ROW:
+        print_trunks("row", answer);
+        return 0;
+    case POZQABEN_CHANNEL:
+        print_trunks("channel", answer);
+        return 0;
+    case POZQABEN_BOX:
         print_box(answer);
-    else
-        print_trunks(answer[2] == 1 ? "row" : "channel", answer);
-    return 0;
+        return 0;
+    }
+    return 1;
 }

@@ -19,6 +19,19 @@ mod refusal;
 
 pub use refusal::Refusal;
 
+/// The most places of a side: n, and the width of a box.
+pub const LONGEST_SIDE: usize = 90;
+/// The most tracks of a wiring that `check` and `layer_view` take.
+pub const WIDEST_GRID: usize = 90;
+/// The most layers of a wiring that they take.
+pub const MOST_LAYERS: usize = 255;
+/// The most trunk layers of a row or a channel.
+pub const MOST_TRUNK_LAYERS: usize = 8;
+/// The largest net number; the smallest is 1.
+pub const LARGEST_NET: u8 = 180;
+/// The most bytes of a ticket that is not refused.
+pub const LONGEST_TICKET: usize = 412;
+
 #[derive(Clone, Copy, Debug, PartialEq, Eq)]
 pub enum Kind {
     Row,
@@ -86,11 +99,13 @@ impl Laid {
     }
 }
 
-fn kind(number: u64) -> Kind {
-    match number {
-        1 => Kind::Row,
-        2 => Kind::Channel,
-        _ => Kind::Box,
+/// The kind of an answer that is no refusal.
+fn kind(number: usize) -> Kind {
+    match number as u64 {
+        raw::ROW => Kind::Row,
+        raw::CHANNEL => Kind::Channel,
+        raw::BOX => Kind::Box,
+        other => panic!("the library answered {other}, which is no kind"),
     }
 }
 
@@ -107,7 +122,7 @@ pub fn read(ticket: &[u8]) -> Result<Reading, Refusal> {
     // Sound: each pointer and length are those of one slice, and the array is borrowed here alone.
     unsafe { raw::pozqaben_read(ticket.as_ptr(), ticket.len(), answer.as_mut_ptr(), answer.len()) };
     let [_, _, k, n, byte2, nets] = accepted(answer)?;
-    Ok(Reading { kind: kind(k as u64), n, byte2, nets })
+    Ok(Reading { kind: kind(k), n, byte2, nets })
 }
 
 pub fn survey(ticket: &[u8]) -> Result<Survey, Refusal> {
@@ -115,7 +130,7 @@ pub fn survey(ticket: &[u8]) -> Result<Survey, Refusal> {
     // Sound: as in `read`.
     unsafe { raw::pozqaben_survey(ticket.as_ptr(), ticket.len(), answer.as_mut_ptr(), answer.len()) };
     let [_, _, k, n, w, nets, across, up, layers, floor] = accepted(answer)?;
-    Ok(Survey { kind: kind(k as u64), n, w, nets, across, up, layers, floor })
+    Ok(Survey { kind: kind(k), n, w, nets, across, up, layers, floor })
 }
 
 /// Lays the ticket into the buffer, of which a refusal alters no byte, and no other call a byte past the wiring.
@@ -124,7 +139,7 @@ pub fn lay_into(ticket: &[u8], wiring: &mut [u8]) -> Result<Laid, Refusal> {
     // Sound: as in `read`; the wiring is borrowed mutably, so it overlaps nothing.
     unsafe { raw::pozqaben_lay(ticket.as_ptr(), ticket.len(), wiring.as_mut_ptr(), wiring.len(), answer.as_mut_ptr(), answer.len()) };
     let [_, _, k, n, w, layers, first, nets, across, up, floor] = accepted(answer)?;
-    Ok(Laid { kind: kind(k as u64), n, w, k: layers, first: first == 1, nets, across, up, floor })
+    Ok(Laid { kind: kind(k), n, w, k: layers, first: first == 1, nets, across, up, floor })
 }
 
 /// Lays the ticket into a buffer of its own, which is as long as the wiring.

@@ -15,6 +15,11 @@ pub const LAY_ENTRIES: usize = 11;
 pub const CHECK_ENTRIES: usize = 2;
 pub const LAYER_VIEW_ENTRIES: usize = 4;
 
+/// A ticket's kind, as the answers have it.
+pub const ROW: u64 = 1;
+pub const CHANNEL: u64 = 2;
+pub const BOX: u64 = 3;
+
 extern "C" {
     /// number, place, kind, n, byte 2, nets
     pub fn pozqaben_read(ticket: *const u8, ticket_length: usize, answer: *mut u64, answer_length: usize) -> bool;

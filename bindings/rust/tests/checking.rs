@@ -7,7 +7,7 @@ use common::{answered, extremes, ticket, Lent};
 use slow::judge;
 use slow::tickets::{encode, of_shape, random, Numbers, Places};
 use slow::wirings::{case, layered, spoiled, wired, Case};
-use slow::{EAST, NORTH, SOUTH, WEST};
+use slow::{BOX, CHANNEL, EAST, LARGEST_NET, LONGEST_SIDE, MOST_LAYERS, MOST_TRUNK_LAYERS, NORTH, SOUTH, WEST, WIDEST_GRID};
 
 fn same_verdict(c: &Case) -> u64 {
     let mut scratch = Lent::new(c.scratch, c.wiring.len() as u8);
@@ -87,8 +87,8 @@ fn refusals_before_the_points() {
     for _ in 0..60 {
         let c = wired(r);
         let size = c.wiring.len();
-        for w in [0, 1, c.w, 90, 91, 256, 1 << 32, usize::MAX] {
-            for k in [0, 1, c.k, 255, 256, 1 << 32, usize::MAX] {
+        for w in [0, 1, c.w, WIDEST_GRID, WIDEST_GRID + 1, 256, 1 << 32, usize::MAX] {
+            for k in [0, 1, c.k, MOST_LAYERS, MOST_LAYERS + 1, 1 << 32, usize::MAX] {
                 same_verdict(&case(&c.ticket, w, k, c.first, c.wiring.clone()));
             }
         }
@@ -105,30 +105,34 @@ fn refusals_before_the_points() {
     }
 }
 
-/// 90 × 90 × 255 points, the most that Check takes: full lines, one of them cut, one net everywhere, noise, nothing.
+/// The most points that Check takes: full lines, one of them cut, one net everywhere, noise, nothing.
 #[test]
 fn largest_wirings() {
     let r = &mut Numbers::new(311);
-    let sides = [(NORTH, 0), (SOUTH, 0), (WEST, 90), (EAST, 90)];
-    let pins: Places = sides.iter().flat_map(|(s, add)| (1..=90).map(move |i| ((*s, i), (i + add) as u8))).collect();
-    let t = encode(3, 90, 90, &pins);
-    let lines = layered(90, 90, 255, |i, j, l| if l % 2 == 1 { i as u8 } else { 90 + j as u8 });
-    assert_eq!(same_verdict(&case(&t, 90, 255, false, lines.clone())), 0);
-    same_verdict(&case(&t, 90, 255, true, lines.clone()));
+    let (n, w, k) = (LONGEST_SIDE, WIDEST_GRID, MOST_LAYERS);
+    let (area, size) = (n * w, n * w * k);
+    let sides = [(NORTH, 0), (SOUTH, 0), (WEST, n), (EAST, n)];
+    let pins: Places = sides.iter().flat_map(|(s, add)| (1..=n).map(move |i| ((*s, i), (i + add) as u8))).collect();
+    let t = encode(BOX, n, w, &pins);
+    let with = |x: Vec<u8>| case(&t, w, k, false, x);
+    let lines = layered(n, w, k, |i, j, l| if l % 2 == 1 { i } else { n + j } as u8);
+    assert_eq!(same_verdict(&with(lines.clone())), 0);
+    same_verdict(&case(&t, w, k, true, lines.clone()));
     let mut cut = lines.clone();
-    let (south_end, north_end) = (90 * 90 * 254 + 45, 90 * 90 * 255 - 45);
+    let (south_end, north_end) = (size - area + n / 2, size - n / 2);
     cut[south_end] = 0;
-    assert_eq!(same_verdict(&case(&t, 90, 255, false, cut.clone())), 0);
+    assert_eq!(same_verdict(&with(cut.clone())), 0);
     cut[north_end] = 0;
-    assert_eq!(same_verdict(&case(&t, 90, 255, false, cut)), 15);
+    assert_eq!(same_verdict(&with(cut)), 15);
     let mut foreign = lines;
-    foreign[90 * 90 * 255 - 1] = 181;
-    assert_eq!(same_verdict(&case(&t, 90, 255, false, foreign)), 14);
-    assert_eq!(same_verdict(&case(&t, 90, 255, false, vec![0; 90 * 90 * 255])), 15);
-    let few = of_shape(r, 3, 90, 90, 10);
+    foreign[size - 1] = LARGEST_NET + 1;
+    assert_eq!(same_verdict(&with(foreign)), 14);
+    assert_eq!(same_verdict(&with(vec![0; size])), 15);
+    let few = of_shape(r, BOX, n, w, 10);
     let names = nets(&few);
-    same_verdict(&case(&few, 90, 255, true, (0..90 * 90 * 255).map(|_| r.pick(&names[..2])).collect()));
-    let one: Places = (1..=90).map(|i| ((NORTH, i), 7)).collect();
-    assert_eq!(same_verdict(&case(&encode(2, 90, 8, &one), 90, 255, true, vec![7; 90 * 90 * 255])), 0);
-    assert_eq!(same_verdict(&case(&encode(2, 90, 8, &Places::new()), 90, 255, true, vec![0; 90 * 90 * 255])), 0);
+    same_verdict(&case(&few, w, k, true, (0..size).map(|_| r.pick(&names[..2])).collect()));
+    let one: Places = (1..=n).map(|i| ((NORTH, i), 7)).collect();
+    let channel = |pins: &Places| encode(CHANNEL, n, MOST_TRUNK_LAYERS, pins);
+    assert_eq!(same_verdict(&case(&channel(&one), w, k, true, vec![7; size])), 0);
+    assert_eq!(same_verdict(&case(&channel(&Places::new()), w, k, true, vec![0; size])), 0);
 }

@@ -4,6 +4,7 @@ mod common;
 
 use common::{answered, extremes, ticket, Lent};
 use slow::judge::{judge, Grid};
+use slow::lay::grid;
 use slow::tickets::{corner, Numbers};
 use slow::{survey, Ticket, EAST, NORTH, SOUTH, WEST};
 
@@ -36,8 +37,7 @@ fn lays_well(r: &mut Numbers, bytes: &[u8]) {
             return;
         }
     };
-    let f = survey::figures(&t);
-    let g = Grid { n: t.n, w: f.w, k: f.layers, first: t.kind == 3 && t.n < f.w };
+    let g = grid(&t);
     let more = r.below(50);
     for size in [g.size(), g.size() + more] {
         let (answer, buffer) = laid(bytes, size, salt);

@@ -4,9 +4,10 @@ mod common;
 
 use common::answered;
 use slow::tickets::Numbers;
+use slow::{LONGEST_SIDE, MOST_LAYERS, WIDEST_GRID};
 
 fn expected(length: usize, n: usize, w: usize, k: usize, layer: usize) -> [u64; 4] {
-    if !(1..=90).contains(&n) || !(1..=90).contains(&w) || !(1..=255).contains(&k) {
+    if !(1..=LONGEST_SIDE).contains(&n) || !(1..=WIDEST_GRID).contains(&w) || !(1..=MOST_LAYERS).contains(&k) {
         return [11, 0, 0, 0];
     }
     if length != n * w * k {
@@ -33,7 +34,7 @@ fn same_view(x: &[u8], n: usize, w: usize, k: usize, layer: usize) {
 
 #[test]
 fn every_layer_of_small_wirings() {
-    for (n, w, k) in [(1, 1, 1), (3, 2, 4), (2, 7, 5), (90, 1, 3), (1, 90, 2)] {
+    for (n, w, k) in [(1, 1, 1), (3, 2, 4), (2, 7, 5), (LONGEST_SIDE, 1, 3), (1, WIDEST_GRID, 2)] {
         let x: Vec<u8> = (0..n * w * k).map(|at| at as u8).collect();
         for layer in 0..k + 2 {
             same_view(&x, n, w, k, layer);
@@ -44,21 +45,23 @@ fn every_layer_of_small_wirings() {
 
 #[test]
 fn largest_wiring() {
-    let x = vec![5; 90 * 90 * 255];
-    for layer in [0, 1, 2, 128, 254, 255, 256, 1 << 32, usize::MAX] {
-        same_view(&x, 90, 90, 255, layer);
-        same_view(&x[1..], 90, 90, 255, layer);
+    let (n, w, k) = (LONGEST_SIDE, WIDEST_GRID, MOST_LAYERS);
+    let x = vec![5; n * w * k];
+    for layer in [0, 1, 2, 128, k - 1, k, k + 1, 1 << 32, usize::MAX] {
+        same_view(&x, n, w, k, layer);
+        same_view(&x[1..], n, w, k, layer);
     }
 }
 
 #[test]
 fn counts_in_and_out_of_range() {
     let r = &mut Numbers::new(401);
-    let x = vec![9; 90 * 90 * 16];
-    let odd = [0, 1, 2, 90, 91, 255, 256, 1 << 16, 1 << 32, 1 << 63, usize::MAX];
+    let layers = 16;
+    let x = vec![9; LONGEST_SIDE * WIDEST_GRID * layers];
+    let odd = [0, 1, 2, WIDEST_GRID, WIDEST_GRID + 1, MOST_LAYERS, MOST_LAYERS + 1, 1 << 16, 1 << 32, 1 << 63, usize::MAX];
     for _ in 0..20_000 {
         let mut count = |top: usize| if r.below(8) == 0 { r.pick(&odd) } else { 1 + r.below(top) };
-        let (n, w, k, layer) = (count(90), count(90), count(16), count(17));
+        let (n, w, k, layer) = (count(LONGEST_SIDE), count(WIDEST_GRID), count(layers), count(layers + 1));
         let right = n.saturating_mul(w).saturating_mul(k).min(x.len());
         let length = if r.below(6) == 0 { r.below(x.len() + 1) } else { right };
         same_view(&x[..length], n, w, k, layer);

@@ -26,6 +26,13 @@ fn typed_answers() {
 }
 
 #[test]
+fn limits_of_the_document() {
+    assert_eq!((pozqaben::LONGEST_SIDE, pozqaben::WIDEST_GRID), (slow::LONGEST_SIDE, slow::WIDEST_GRID));
+    assert_eq!((pozqaben::MOST_LAYERS, pozqaben::MOST_TRUNK_LAYERS), (slow::MOST_LAYERS, slow::MOST_TRUNK_LAYERS));
+    assert_eq!((pozqaben::LARGEST_NET, pozqaben::LONGEST_TICKET), (slow::LARGEST_NET, slow::LONGEST_TICKET));
+}
+
+#[test]
 fn survey_lines() {
     for (name, t) in DOCUMENT {
         let line = survey(t).map_or_else(|r| format!("refused {} at {}", r.number, r.place), |s| s.to_string());
@@ -57,19 +64,10 @@ fn refused_tickets() {
 #[test]
 fn refused_buffers_and_wirings() {
     let row = [1, 2, 1, 1, 3, 1, 1];
-    say(
-        lay_into(&row, &mut [0; 3]),
-        "refused 10 at 4: the wiring buffer is shorter than the 4 bytes that the wiring takes",
-    );
-    say(
-        check(&row, 91, 2, false, &[]),
-        "refused 11 at 0: n or w is none of 1 to 90, or k none of 1 to 255, or w is not the box's own",
-    );
+    say(lay_into(&row, &mut [0; 3]), "refused 10 at 4: the wiring buffer is shorter than the 4 bytes that the wiring takes");
+    say(check(&row, 91, 2, false, &[]), "refused 11 at 0: n or w is none of 1 to 90, or k none of 1 to 255, or w is not the box's own");
     say(check(&row, 1, 2, false, &[1; 3]), "refused 12 at 4: the wiring's length is not n * w * k, which is 4");
-    say(
-        check_with(&row, 1, 2, false, &[1; 4], &mut [0; 3]),
-        "refused 13 at 4: the scratch is shorter than the 4 bytes that it must have",
-    );
+    say(check_with(&row, 1, 2, false, &[1; 4], &mut [0; 3]), "refused 13 at 4: the scratch is shorter than the 4 bytes that it must have");
     say(check(&row, 1, 2, false, &[1, 1, 1, 2]), "refused 14 at 3: the point at byte 3 of the wiring holds no net of the ticket");
     say(check(&row, 1, 2, false, &[1, 1, 0, 0]), "refused 15 at 1: net 1 is not in one piece");
     say(layer_view(&[0; 4], 2, 1, 2, 3), "refused 16 at 3: the wiring has no layer 3");

@@ -9,11 +9,12 @@ use lib.ListN.{length, getD, take}
 use lib.Seq.{getD-take}
 use borrow.Author.Tests.{eq-eqb, ne-eqb}
 use Rattle.counting.specs.Counting.{In}
-use Rattle.grid.specs.Grid.{upright, Side, north, south, west, east, point, Inside}
-use Rattle.grid.specs.Legal.{topNet, wiringOf, entry, pinsOf}
-use Rattle.grid.specs.Limits.{longestSide, mostLayers}
+use Rattle.terms.specs.Kinds.{Side, north, south, west, east}
+use Rattle.terms.specs.Limits.{largestNet, longestSide, mostLayers}
+use Rattle.grid.specs.Grid.{upright, point, Inside}
+use Rattle.grid.specs.Legal.{wiringOf, entry, pinsOf}
 use Rattle.paint.specs.Paint.{Drawn}
-use Rattle.paint.specs.Laid.{Laid}
+use Rattle.grid.specs.Laid.{Laid}
 use Rattle.paint.proofs.Laws.{drawn-wiring}
 use Rattle.trunks.specs.declared.Trunks.{Trunks}
 use Rattle.trunks.specs.Trunks.{Placed}
@@ -40,7 +41,7 @@ module _ {plan : Plan} {n w k : ℕ} {mid : List ℕ} (a b : List ℕ) {before :
     only = λ m i j l nz h v e. absurd (nz (sym e ∙ drawn-wiring (upright n w k) d i j l h ∙ rw (ne-eqb (l % 2) 1 (omega arith))));
   }
 
-  module _ {after : List ℕ} (c : Crossed plan (upright n w k) mid after topNet) where
+  module _ {after : List ℕ} (c : Crossed plan (upright n w k) mid after largestNet) where
     comb-one : (i j l : ℕ) → Inside (upright n w k) (point i j l) → l % 4 ≡ 1 → wiringOf (upright n w k) after i j l ≡ entry a i
     comb-one i j l h e = c .combs i j l h (omega arith) ∙ drawn-wiring (upright n w k) d i j l h ∙ rw (eq-eqb (l % 2) 1 (omega arith), eq-eqb (l % 4) 1 e)
 
@@ -64,7 +65,7 @@ may-cross {norths} {souths} {n = n} {w = w} {h = h} {k = k} a b t given two few 
 
 module _ (norths souths : List ℕ) (t : Trunks) {n w h : ℕ} {before mid after : List ℕ} (placed : Placed norths souths n t) where
   pub channel-laid : Given norths souths n w h (2 * h + 1) before → Drawn n w before mid (2 * h + 1) (base (take n norths) (take n souths))
-      → Crossed (planOf t w) (upright n w (2 * h + 1)) mid after topNet → Laid (upright n w (2 * h + 1)) (columnPins norths souths) before after
+      → Crossed (planOf t w) (upright n w (2 * h + 1)) mid after largestNet → Laid (upright n w (2 * h + 1)) (columnPins norths souths) before after
   channel-laid given d c = record {
     legal = channel-legal {h = h} (given .tracks .0) (given .trunks .0) none none
         (spans norths souths n w h (2 * h + 1) t placed (given .tracks .0) (given .passed) (omega arith))
@@ -77,8 +78,9 @@ module _ (norths souths : List ℕ) (t : Trunks) {n w h : ℕ} {before mid after
     others = untouched (take n norths) (take n souths) d c;
   }
 
-  pub row-laid : ((a : ℕ) → getD souths a 0 ≡ 0) → Given norths souths n w h (2 * h) before → Drawn n w before mid (2 * h) (base (take n norths) (take n norths))
-      → Crossed (planOf t w) (upright n w (2 * h)) mid after topNet → Laid (upright n w (2 * h)) (columnPins norths souths) before after
+  pub row-laid : ((a : ℕ) → getD souths a 0 ≡ 0) → Given norths souths n w h (2 * h) before
+      → Drawn n w before mid (2 * h) (base (take n norths) (take n norths))
+      → Crossed (planOf t w) (upright n w (2 * h)) mid after largestNet → Laid (upright n w (2 * h)) (columnPins norths souths) before after
   row-laid bare given d c = record {
     legal = row-legal {h = h} (given .tracks .0) (given .trunks .0) none none (bare-list souths bare)
         (spans norths souths n w h (2 * h) t placed (given .tracks .0) (given .passed) (omega arith))
@@ -92,14 +94,3 @@ module _ (norths souths : List ℕ) (t : Trunks) {n w h : ℕ} {before mid after
         | yes one ↦ comb-one (take n norths) (take n norths) d c i j l i′ (omega arith) ∙ taken n norths i (i′ .0)
         | no three ↦ comb-three (take n norths) (take n norths) d c i j l i′ (omega arith) ∙ taken n norths i (i′ .0)
       ]
-
--- lists with no net to the west and the east leave the pins of a row or a channel, for a caller that has all four sides
-pub two-sides : (norths souths wests easts : List ℕ) → ((a : ℕ) → getD wests a 0 ≡ 0) → ((a : ℕ) → getD easts a 0 ≡ 0)
-    → pinsOf norths souths wests easts ≡ columnPins norths souths
-two-sides norths souths wests easts hw he = fun-ext (λ s. fun-ext (λ a. at s a))
-  where
-    at : (s : Side) (a : ℕ) → pinsOf norths souths wests easts s a ≡ columnPins norths souths s a
-    at north a = refl
-    at south a = refl
-    at west a = bare-list wests hw a ∙ sym (none a)
-    at east a = bare-list easts he a ∙ sym (none a)

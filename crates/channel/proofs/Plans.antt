@@ -12,8 +12,10 @@ use borrow.Author.Tests.{leb-true, ltb-true}
 use Rattle.counting.specs.Counting.{In, bit}
 use Rattle.counting.proofs.Sums.{split, sum-le, sum-some, bit-one, bit-zero}
 use Rattle.counting.proofs.Counts.{le-most, most-le, count-le}
-use Rattle.grid.specs.Grid.{Grid, upright, Side, north, south, west, east, pin, point, places, columnOf, Inside}
-use Rattle.grid.specs.Legal.{topNet, nets, entry}
+use Rattle.terms.specs.Kinds.{Side, north, south, west, east}
+use Rattle.terms.specs.Limits.{largestNet}
+use Rattle.grid.specs.Grid.{Grid, upright, pin, point, places, columnOf, Inside}
+use Rattle.grid.specs.Legal.{nets, entry}
 use Rattle.density.specs.Density.{passes, across}
 use Rattle.density.proofs.Pinned.{Pinned, Span, passes-span}
 use Rattle.trunks.specs.declared.Trunks.{Trunks}
@@ -60,16 +62,17 @@ module _ (norths souths : List ℕ) (n w h k : ℕ) (t : Trunks) (d : Placed nor
       let (e′, f) = and-eq-true-iff (leb (leftOf t m) c && leb c (rightOf t m)) (ltb (leftOf t m) (rightOf t m)) .0 e in
       let (a, b) = and-eq-true-iff (leb (leftOf t m) c) (leb c (rightOf t m)) .0 e′ in
       let lt = ltb-true (leftOf t m) (rightOf t m) f in
-      (omega (arith, leb-true (leftOf t m) c a, leb-true c (rightOf t m) b, d .first m lt .0, d .last m lt .0), bit-one (passes-span g p c m _ _ (span m lt) ∙ e))
+      let in-grid : In c n = omega (arith, leb-true (leftOf t m) c a, leb-true c (rightOf t m) b, d .first m lt .0, d .last m lt .0) in
+      (in-grid, bit-one (passes-span g p c m _ _ (span m lt) ∙ e))
 
   few : (c : ℕ) → crossing t c ≤ across g p
   unfolding across
   few c = elim (decLe 1 (crossing t c)) [
-    | yes one ↦ let (m, i, o) = sum-some (λ m. bit (crosses c m)) topNet one in
+    | yes one ↦ let (m, i, o) = sum-some (λ m. bit (crosses c m)) largestNet one in
         let (inside, _) = crossed c m (split (crosses c m) (λ e. e) (λ e. absurd (omega (arith, bit-zero e)))) in
         omega (
           arith,
-          sum-le (λ m. bit (crosses c m)) (λ m. bit (passes g p c m)) topNet
+          sum-le (λ m. bit (crosses c m)) (λ m. bit (passes g p c m)) largestNet
               (λ m i. split (crosses c m) (λ e. omega (arith, bit-one e, crossed c m e)) (λ e. omega (arith, bit-zero e))),
           le-most
               (λ c. nets (passes g p c)) n c inside,
@@ -77,15 +80,15 @@ module _ (norths souths : List ℕ) (n w h k : ℕ) (t : Trunks) (d : Placed nor
     | no none ↦ omega arith
   ]
 
-  across-small : across g p ≤ topNet
+  across-small : across g p ≤ largestNet
   unfolding across
-  across-small = most-le (λ c. nets (passes g p c)) n topNet (λ c i. count-le (passes g p c) topNet)
+  across-small = most-le (λ c. nets (passes g p c)) n largestNet (λ c i. count-le (passes g p c) largestNet)
 
   module _ (wide : 1 ≤ w) (fits : across g p ≤ h * w) (layers : 2 * h ≤ k) where
     placed : (m : ℕ) → leftOf t m < rightOf t m → placeOf t m / w < h
     placed m lt = div-lt-iff-lt-mul wide .1 (omega (arith, d .within (across g p) across-small few m lt))
 
-    pub spans : Spans (planOf t w) g p topNet
+    pub spans : Spans (planOf t w) g p largestNet
     spans = record {
       few = d .few;
       all = λ m s a nz i e. at m s a nz i e;

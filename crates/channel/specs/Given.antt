@@ -1,29 +1,25 @@
 -- What laying a row or a channel asks of the caller.
 --
 --   columnPins north south         the pins of a row or a channel: none to the west and the east
---   mostTrunks                     "h, the number of trunk (horizontal) layers, 1 to 8"
---   Given north south n w h k x    sizes that a ticket can have, pins that are nets' or empty, as many tracks as across asks of h trunk layers,
---                                  and a buffer x that holds the grid
+--   Given north south n w h k x    sizes that a ticket can have, pins that are nets' or empty, as many tracks as across asks of
+--                                  h trunk layers, and a buffer x that holds the grid
 use Prim.Native.Nat.{ℕ, _*_, _≤_}
 use mathlib.Core.List.{List, []}
 use lib.ListN.{length, getD}
 use Rattle.counting.specs.Counting.{In}
 use Rattle.grid.specs.Grid.{upright}
-use Rattle.grid.specs.Legal.{Pins, topNet, pinsOf}
-use Rattle.grid.specs.Limits.{longestSide}
+use Rattle.terms.specs.Limits.{largestNet, longestSide, mostTrunkLayers}
+use Rattle.grid.specs.Legal.{Pins, pinsOf}
 use Rattle.density.specs.Density.{across}
 
 abbrev pub columnPins : List ℕ → List ℕ → Pins
 columnPins north south = pinsOf north south [] []
 
-abbrev pub mostTrunks : ℕ
-mostTrunks = 8
-
 pub record Given (north south : List ℕ) (n w h k : ℕ) (x : List ℕ) : Type 0 where
   pub columns : In n longestSide
   pub tracks : In w longestSide
-  pub trunks : In h mostTrunks
-  pub norths : (a : ℕ) → getD north a 0 ≤ topNet
-  pub souths : (a : ℕ) → getD south a 0 ≤ topNet
+  pub trunks : In h mostTrunkLayers
+  pub norths : (a : ℕ) → getD north a 0 ≤ largestNet
+  pub souths : (a : ℕ) → getD south a 0 ≤ largestNet
   pub passed : across (upright n w k) (columnPins north south) ≤ h * w
   pub room : n * w * k ≤ length x

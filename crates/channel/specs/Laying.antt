@@ -4,7 +4,8 @@
 --   comb a b l i                   what a vertical layer l holds in column i: layers 1, 5, 9.. the pins a, layers 3, 7, 11.. the pins b
 --   base a b                       the wiring with its combs and without its trunks
 --   Seated plan g                  each trunk lies on a horizontal layer of the grid, and no two share a point
---   Crossed plan g before after t  the trunks of nets 1 to t are laid: the horizontal layers hold them and nothing else, the vertical ones what they held
+--   Crossed plan g before after t  the trunks of nets 1 to t are laid: the horizontal layers hold them and nothing else,
+--                                  the vertical ones what they held
 use Prim.Native.Nat.{ℕ, _+_, _*_, _/_, _%_, _≤_}
 use mathlib.Core.Path.{_≡_}
 use mathlib.Core.Bool.{cond}

@@ -1,65 +1,54 @@
-// Prints Check's number and place of each stored ticket and wiring. A record is a ticket as in the other vector programs, w and k of two
-// bytes, the first direction of one, the lengths of scratch and wiring of three, all low byte first, and the wiring.
+// Prints Check's number and place of each stored ticket and wiring. After its ticket a record has w and k of two bytes, the first direction
+// of one, the lengths of scratch and wiring of three, and the wiring.
 use grid::Layer;
 use grid::Track;
 use libc::STDIN_FILENO;
-use libc::STDOUT_FILENO;
-ghost use Prim.Native.Nat.{_+_, _≤_, _<_};
+use records::pair;
+use records::triple;
+ghost use Prim.Native.Nat.{_≤_};
 ghost use lib.ListN.{length};
 
-fn wide(x: u8) -> usize
-    ensures { λ r. ⌜ r < 256 ⌝ }
-{
-    x as usize
+// The bytes between a record's ticket and its wiring.
+const FIELDS: usize = 11;
+
+const INPUT: usize = 1500000;
+
+const SCRATCH: usize = 100000;
+
+fn show(ticket: &[u8], w: Track, k: Layer, first: bool, wiring: &[u8], scratch: &mut [u8]) {
+    let a = checker::check(ticket, w, k, first, wiring, scratch);
+    records::field(terms::wide(a.number));
+    records::last_field(a.place);
 }
 
-// The number of two bytes at `at`.
-fn pair(s: &[u8], at: usize) -> usize
-    requires { ⌜ at + 2 ≤ length (now s) ⌝ }
-    ensures { λ r. ⌜ r < 65536 ⌝ }
-{
-    wide(s[at]) + 256 * wide(s[at + 1])
-}
-
-// The number of three bytes at `at`.
-fn triple(s: &[u8], at: usize) -> usize
-    requires { ⌜ at + 3 ≤ length (now s) ⌝ }
-    ensures { λ r. ⌜ r < 16777216 ⌝ }
-{
-    pair(s, at) + 65536 * wide(s[at + 2])
-}
-
-fn show(ticket: &[u8], w: usize, k: usize, first: bool, wiring: &[u8], scratch: &mut [u8]) {
-    let a = checker::check(ticket, Track(w), Layer(k), first, wiring, scratch);
-    io::print_decimal(STDOUT_FILENO, a.number as u64);
-    io::write_all(STDOUT_FILENO, b" ");
-    io::print_decimal(STDOUT_FILENO, a.place as u64);
-    io::write_all(STDOUT_FILENO, b"\n");
-}
-
-// The record whose ticket stands at `from` and ends at `end`. Where the record ends, or 0 where it is not whole.
-fn one(s: &[u8], from: usize, end: usize, room: &mut [u8]) -> usize
-    requires { ⌜ (from ≤ end) × (end ≤ length (now s)) ⌝ }
+// Shows the record that starts at `at`, and answers where it ends: at `at` itself where it is not whole.
+fn one(s: &[u8], at: usize, room: &mut [u8]) -> usize
+    requires { ⌜ at ≤ length (now s) ⌝ }
     ensures { λ r. ⌜ r ≤ length (now (s .entry)) ⌝ }
 {
-    if s.len() - end < 11 {
-        return 0;
+    let r = records::record_at(s, at, FIELDS);
+    let from = r.from;
+    let end = r.end;
+    if end <= at {
+        return at;
     }
     let scratch = triple(s, end + 5);
     let size = triple(s, end + 8);
-    let start = end + 11;
+    let start = end + FIELDS;
     if s.len() - start < size {
-        return 0;
+        return at;
     }
     if room.len() < scratch {
-        return 0;
+        return at;
     }
-    let next = start + size;
+    let w = Track(pair(s, end));
+    let k = Layer(pair(s, end + 2));
     let first = end + 4;
+    let next = start + size;
     show(
         &s[from..end],
-        pair(s, end),
-        pair(s, end + 2),
+        w,
+        k,
         s[first] != 0,
         &s[start..next],
         &mut room[..scratch],
@@ -70,11 +59,7 @@ fn one(s: &[u8], from: usize, end: usize, room: &mut [u8]) -> usize
 fn all(s: &[u8], room: &mut [u8]) {
     let mut at = 0;
     loop {
-        let end = records::record_end(s, at);
-        if end < at + 2 {
-            return;
-        }
-        let next = one(s, at + 2, end, room);
+        let next = one(s, at, room);
         if next <= at {
             return;
         }
@@ -82,13 +67,13 @@ fn all(s: &[u8], room: &mut [u8]) {
     }
 }
 
-fn input() -> [u8; 1500000] {
-    [0; 1500000]
+fn input() -> [u8; INPUT] {
+    [0; INPUT]
 }
 
 fn main() {
     let mut buffer = input();
-    let mut room = [0u8; 100000];
+    let mut room = [0u8; SCRATCH];
     let n = io::read_full(STDIN_FILENO, &mut buffer);
     all(&buffer[..n], &mut room);
 }

@@ -8,17 +8,20 @@ use native.Mathlib.Omega.{arith}
 use native.Mathlib.Decide.{decLt}
 use lib.ListN.{length, List·getD-eq-default}
 use Rattle.counting.specs.Counting.{In}
-use Rattle.grid.specs.Grid.{Grid, Side, north, south, west, east, Node, pin, point, places}
+use Rattle.terms.specs.Kinds.{Side, north, south, west, east}
+use Rattle.grid.specs.Grid.{Grid, Node, pin, point, places}
 use Rattle.grid.specs.Legal.{Pins, Wiring, Held, Legal, wiringOf, index}
 use Rattle.grid.proofs.Buffer.{point-at}
 use Rattle.sweep.specs.Marks.{at, Spot, a-pin, a-point, val}
-use Rattle.sweep.specs.Edges.{pinAt}
+use Rattle.sweep.specs.Edges.{pinAt, pinPlaces}
+use Rattle.terms.specs.Refusals.{refusal}
 use Rattle.sweep.proofs.Places.{spot}
-use Rattle.checker.specs.Check.{refusal, Foreign, FirstForeign, OnePiece, Broken, Judged}
-use Rattle.checker.specs.Marking.{Listed, Opened, FirstUnknown, Torn}
+use Rattle.checker.specs.Check.{Foreign, FirstForeign, OnePiece, Broken, Judged}
+use Rattle.checker.specs.Marking.{Listed, Opened, FirstUnknown, Torn, noNet}
 use Rattle.checker.proofs.Verdict.{Hub, hub, one-piece, broken}
+use Rattle.terms.specs.Limits.{longestSide, widestGrid, byteValues}
 
-pin-in : (g : Grid) → g .n ≤ 90 → g .w ≤ 90 → (s : Side) (a : ℕ) → In a (places g s) → pinAt s a < 360
+pin-in : (g : Grid) → g .n ≤ longestSide → g .w ≤ widestGrid → (s : Side) (a : ℕ) → In a (places g s) → pinAt s a < pinPlaces
 pin-in g n w north a i = omega arith
 pin-in g n w south a i = omega arith
 pin-in g n w west a i = omega arith
@@ -44,7 +47,7 @@ module _ (g : Grid) (p : Pins) (P X : List ℕ) (listed : Listed g p P) (size : 
 
   -- ---- foreign points
 
-  module _ (s k : List ℕ) (opened : Opened P s k 360) (bytes : (q : ℕ) → at X q < 256) where
+  module _ (s k : List ℕ) (opened : Opened P s k pinPlaces) (bytes : (q : ℕ) → at X q < byteValues) where
     holder : (q : ℕ) → at k (at X q) ≢ 0 → at X q ≢ 0 → (b : ℕ) × (at P b ≡ at X q)
     holder q h ne = ⊎-elim (λ z. absurd (ne z)) (λ o. (o .0, o .2)) (opened .known (at X q) (bytes q) h)
 
@@ -93,7 +96,7 @@ module _ (g : Grid) (p : Pins) (P X : List ℕ) (listed : Listed g p P) (size : 
           let (b, o) = holder q (known q i) (λ z. ne (sym e ∙ z)) in
           (b, o ∙ e)
 
-      net-small : (m : ℕ) → m ≢ 0 → (a : Spot) → val P X a ≡ m → m < 255
+      net-small : (m : ℕ) → m ≢ 0 → (a : Spot) → val P X a ≡ m → m < noNet
       net-small m ne a e = let (b, o) = net-pin m ne a e in omega (arith, listed .small b)
 
       module _ (t : ℕ) (torn : Torn g P X t) where

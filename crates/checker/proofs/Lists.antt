@@ -1,5 +1,6 @@
 -- The four sides of a ticket put one after the other are a list of the grid's pins: what stands past a side's end is empty.
 use Prim.Native.Nat.{ℕ, zero, suc, _+_, _-_, _≤_, _<_}
+use mathlib.Core.Bool.{false}
 use mathlib.Core.Path.{_≡_, refl, sym, ap, _∙_}
 use mathlib.Core.Logic.{_⊎_, inl, inr, _≢_, ⊎-elim}
 use mathlib.Core.List.{List}
@@ -8,16 +9,17 @@ use native.Mathlib.Decide.{ℕ-discrete, decLt, decLe}
 use lib.ListN.{length, set, length-set, List·getD-eq-default}
 use lib.Seq.{getD-set-same, getD-set-other}
 use Rattle.counting.specs.Counting.{In}
-use Rattle.grid.specs.Grid.{Grid, Side, north, south, west, east, places}
-use Rattle.grid.specs.Legal.{box, topNet, entry}
-use Rattle.grid.specs.Limits.{longestSide}
-use Rattle.ticket.specs.Format.{pinsIn}
-use Rattle.ticket.specs.Good.{Good, gridIn}
-use Rattle.ticket.specs.declared.Pins.{Pins as TicketPins}
-use Rattle.ticket.specs.declared.Ticket.{Ticket}
+use Rattle.terms.specs.Kinds.{Side, north, south, west, east, box, hasSide}
+use Rattle.terms.specs.Limits.{largestNet, longestSide}
+use Rattle.grid.specs.Grid.{Grid, places}
+use Rattle.grid.specs.Legal.{entry}
+use Rattle.problem.specs.Problem.{pinsIn, Good, shapeOf}
+use Rattle.problem.specs.declared.Pins.{Pins as TicketPins}
+use Rattle.problem.specs.declared.Problem.{Problem}
 use Rattle.sweep.specs.Marks.{at}
-use Rattle.sweep.specs.Edges.{pinAt}
+use Rattle.sweep.specs.Edges.{pinAt, pinPlaces, southStart, westStart, eastStart}
 use Rattle.checker.specs.Marking.{PinList, Listed, Put}
+use Rattle.terms.proofs.Laws.{Known, is-row, is-channel, is-box, known, of-box}
 
 -- ---- one side after the other
 
@@ -42,18 +44,18 @@ putting-more list side r from i h g =
           ∙ g .rest b (⊎-elim inl (λ l. inr (omega arith)) o);
     }
 
-pub putting-end : (list side r : List ℕ) (from i : ℕ) → i ≡ 90 → Putting list side r from i → Put list side r from
+pub putting-end : (list side r : List ℕ) (from i : ℕ) → i ≡ longestSide → Putting list side r from i → Put list side r from
 putting-end list side r from i e g =
     record { size = g .size; inside = λ t h. g .done t (omega arith); outside = λ b o. g .rest b (⊎-elim inl (λ l. inr (omega arith)) o) }
 
-pub pin-list : (pins : TicketPins) (l₀ l₁ l₂ l₃ r : List ℕ) → length l₀ ≡ 360 → Put l₀ (pins .north) l₁ 0 → Put l₁ (pins .south) l₂ 90
-    → Put l₂ (pins .west) l₃ 180 → Put l₃ (pins .east) r 270 → PinList pins r
+pub pin-list : (pins : TicketPins) (l₀ l₁ l₂ l₃ r : List ℕ) → length l₀ ≡ pinPlaces → Put l₀ (pins .north) l₁ 0 → Put l₁ (pins .south) l₂ southStart
+    → Put l₂ (pins .west) l₃ westStart → Put l₃ (pins .east) r eastStart → PinList pins r
 pin-list pins l₀ l₁ l₂ l₃ r e a b c d =
     record {
       size = omega (arith, a .size, b .size, c .size, d .size);
       north = λ i h. d .outside i (inl (omega arith)) ∙ c .outside i (inl (omega arith)) ∙ b .outside i (inl (omega arith)) ∙ ap (at l₁) (omega arith) ∙ a .inside i h;
-      south = λ i h. d .outside (90 + i) (inl (omega arith)) ∙ c .outside (90 + i) (inl (omega arith)) ∙ b .inside i h;
-      west = λ i h. d .outside (180 + i) (inl (omega arith)) ∙ c .inside i h;
+      south = λ i h. d .outside (southStart + i) (inl (omega arith)) ∙ c .outside (southStart + i) (inl (omega arith)) ∙ b .inside i h;
+      west = λ i h. d .outside (westStart + i) (inl (omega arith)) ∙ c .inside i h;
       east = d .inside;
     }
 
@@ -64,53 +66,61 @@ entry-at l zero h = absurd (omega arith)
 entry-at l (suc a) h = ap (at l) (omega arith)
 
 -- each place of the list is a place of a side
-side-of : (b : ℕ) → b < 360 → (s : Side) × (a : ℕ) × (1 ≤ a) × (a ≤ 90) × (pinAt s a ≡ b)
+side-of : (b : ℕ) → b < pinPlaces → (s : Side) × (a : ℕ) × (1 ≤ a) × (a ≤ longestSide) × (pinAt s a ≡ b)
 side-of b h =
-    elim (decLt b 90) [
+    elim (decLt b southStart) [
       | yes l ↦ (north, b + 1, omega arith, omega arith, omega arith)
-      | no l ↦ elim (decLt b 180) [
-        | yes m ↦ (south, b - 90 + 1, omega arith, omega arith, omega arith)
-        | no m ↦ elim (decLt b 270) [
-          | yes o ↦ (west, b - 180 + 1, omega arith, omega arith, omega arith)
-          | no o ↦ (east, b - 270 + 1, omega arith, omega arith, omega arith)
+      | no l ↦ elim (decLt b westStart) [
+        | yes m ↦ (south, b - southStart + 1, omega arith, omega arith, omega arith)
+        | no m ↦ elim (decLt b eastStart) [
+          | yes o ↦ (west, b - westStart + 1, omega arith, omega arith, omega arith)
+          | no o ↦ (east, b - eastStart + 1, omega arith, omega arith, omega arith)
         ]
       ]
     ]
 
-module _ (t : Ticket) (good : Good t) (list : List ℕ) (l : PinList (t .pins) list) where
-  there : (s : Side) (a : ℕ) → 1 ≤ a → a ≤ 90 → pinsIn (t .pins) s a ≡ at list (pinAt s a)
-  there north a h i = entry-at (t .pins .north) a h ∙ sym (l .north (a - 1) (omega arith))
-  there south a h i = entry-at (t .pins .south) a h ∙ sym (l .south (a - 1) (omega arith))
-  there west a h i = entry-at (t .pins .west) a h ∙ sym (l .west (a - 1) (omega arith))
-  there east a h i = entry-at (t .pins .east) a h ∙ sym (l .east (a - 1) (omega arith))
+module _ (q : Problem) (good : Good q) (list : List ℕ) (l : PinList (q .pins) list) where
+  there : (s : Side) (a : ℕ) → 1 ≤ a → a ≤ longestSide → pinsIn (q .pins) s a ≡ at list (pinAt s a)
+  there north a h i = entry-at (q .pins .north) a h ∙ sym (l .north (a - 1) (omega arith))
+  there south a h i = entry-at (q .pins .south) a h ∙ sym (l .south (a - 1) (omega arith))
+  there west a h i = entry-at (q .pins .west) a h ∙ sym (l .west (a - 1) (omega arith))
+  there east a h i = entry-at (q .pins .east) a h ∙ sym (l .east (a - 1) (omega arith))
 
-  past : (b : ℕ) → 360 ≤ b → at list b ≡ 0
+  past : (b : ℕ) → pinPlaces ≤ b → at list b ≡ 0
   past b h = List·getD-eq-default list 0 (omega (arith, l .size))
 
-  small : (b : ℕ) → at list b ≤ topNet
+  small : (b : ℕ) → at list b ≤ largestNet
   small b =
-      elim (decLt b 360) [
+      elim (decLt b pinPlaces) [
         | yes h ↦ let (s, a, i, j, e) = side-of b h in omega (arith, there s a i j, good .numbered s a, ap (at list) e)
         | no h ↦ omega (arith, past b (omega arith))
       ]
 
-  module _ (g : Grid) (n : g .n ≡ t .answer .n .0) (tracks : In (g .w) longestSide) (own : t .answer .kind ≡ box → g .w ≡ t .answer .byte2) where
-    ends : (s : Side) → places g s ≡ places (gridIn t) s → (a : ℕ) → 1 ≤ a → pinsIn (t .pins) s a ≢ 0 → In a (places g s)
+  module _ (g : Grid) (n : g .n ≡ q .n .0) (tracks : In (g .w) longestSide) (own : q .kind ≡ box → g .w ≡ q .byte2) where
+    ends : (s : Side) → places g s ≡ places (shapeOf q) s → (a : ℕ) → 1 ≤ a → pinsIn (q .pins) s a ≢ 0 → In a (places g s)
     ends s e a h ne = elim (decLe a (places g s)) [ yes i ↦ (h, i) | no i ↦ absurd (ne (good .ends s a (omega arith))) ]
 
-    in-side : (s : Side) (a : ℕ) → 1 ≤ a → pinsIn (t .pins) s a ≢ 0 → In a (places g s)
-    in-side north a h ne = ends north n a h ne
-    in-side south a h ne = ends south n a h ne
-    in-side west a h ne = elim (ℕ-discrete (t .answer .kind) box) [ yes e ↦ ends west (own e) a h ne | no o ↦ absurd (ne (good .bare-west o a)) ]
-    in-side east a h ne = elim (ℕ-discrete (t .answer .kind) box) [ yes e ↦ ends east (own e) a h ne | no o ↦ absurd (ne (good .bare-east o a)) ]
+    -- west and east have the box's own places, and are bare in a row and a channel
+    upper : {k : ℕ} (s : Side) → Known k → q .kind ≡ k → (hasSide (q .kind) s ≡ false) ⊎ (places g s ≡ places (shapeOf q) s)
+    upper north k e = inr n
+    upper south k e = inr n
+    upper west is-row e = inl (ap (λ (k : ℕ). hasSide k west) e)
+    upper east is-row e = inl (ap (λ (k : ℕ). hasSide k east) e)
+    upper west is-channel e = inl (ap (λ (k : ℕ). hasSide k west) e)
+    upper east is-channel e = inl (ap (λ (k : ℕ). hasSide k east) e)
+    upper west is-box e = inr (own e ∙ sym (of-box (q .kind) 1 1 1 (q .byte2) e))
+    upper east is-box e = inr (own e ∙ sym (of-box (q .kind) 1 1 1 (q .byte2) e))
 
-    bound : (s : Side) → places g s ≤ 90
+    in-side : (s : Side) (a : ℕ) → 1 ≤ a → pinsIn (q .pins) s a ≢ 0 → In a (places g s)
+    in-side s a h ne = ⊎-elim (λ b. absurd (ne (good .bare s b a))) (λ e. ends s e a h ne) (upper s (known (q .kind) (good .kind)) refl)
+
+    bound : (s : Side) → places g s ≤ longestSide
     bound north = omega (arith, n, good .columns)
     bound south = omega (arith, n, good .columns)
     bound west = tracks .1
     bound east = tracks .1
 
-    pub listed : Listed g (pinsIn (t .pins)) list
+    pub listed : Listed g (pinsIn (q .pins)) list
     listed =
         record {
           long = omega (arith, n, good .columns);
@@ -122,7 +132,7 @@ module _ (t : Ticket) (good : Good t) (list : List ℕ) (l : PinList (t .pins) l
       where
         back : (b : ℕ) → at list b ≢ 0 → (s : Side) × (a : ℕ) × In a (places g s) × (pinAt s a ≡ b)
         back b ne =
-            elim (decLt b 360) [
+            elim (decLt b pinPlaces) [
               | yes h ↦ let (s, a, i, j, e) = side-of b h in (s, a, in-side s a i (λ z. ne (sym (ap (at list) e) ∙ sym (there s a i j) ∙ z)), e)
               | no h ↦ absurd (ne (past b (omega arith)))
             ]

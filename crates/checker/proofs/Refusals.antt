@@ -2,7 +2,7 @@
 use Prim.Native.Nat.{ℕ, _*_, _≤_}
 use mathlib.Core.Path.{_≡_, refl, sym, ap, _∙_, subst}
 use mathlib.Core.Logic.{_≢_}
-use mathlib.Core.Bool.{Bool, true, false, cond, _&&_, false≢true}
+use mathlib.Core.Bool.{Bool, true, false, cond, _&&_, and-eq-true-iff}
 use native.Mathlib.Omega.{arith}
 use native.Mathlib.Decide.{ℕ-discrete}
 use mathlib.Core.List.{List}
@@ -10,84 +10,87 @@ use lib.Dec.{eqb, leb}
 use lib.ListN.{length}
 use borrow.Author.Tests.{eq-eqb, ne-eqb, eqb-true, leb-true}
 use Rattle.counting.specs.Counting.{In}
-use Rattle.grid.specs.Legal.{box}
-use Rattle.grid.specs.Limits.{longestSide, mostLayers, within}
-use Rattle.ticket.specs.Format.{pinsIn}
-use Rattle.ticket.specs.Good.{Good}
+use Rattle.terms.specs.Kinds.{box, hasOwnWidth, widest}
+use Rattle.terms.proofs.Laws.{within-in, passed, boxes-only, Known, is-row, is-channel, is-box, known}
+use Rattle.terms.specs.Limits.{widestGrid, mostLayers, within}
+use Rattle.problem.specs.declared.Problem.{Problem}
+use Rattle.problem.specs.Problem.{pinsIn, Good}
 use Rattle.ticket.specs.Read.{ticketOf}
-use Rattle.ticket.proofs.Good.{read-good}
-use Rattle.ticket.specs.declared.ReadAnswer.{ReadAnswer}
-use Rattle.ticket.specs.declared.Ticket.{Ticket}
-use Rattle.sweep.specs.Edges.{Fits}
+use Rattle.ticket.proofs.Good.{reading-good}
+use Rattle.ticket.specs.declared.Reading.{Reading}
+use Rattle.terms.specs.declared.Refusal.{Refusal}
+use Rattle.terms.specs.Refusals.{refusal}
+use Rattle.sweep.specs.Edges.{pinPlaces, Fits}
 use Rattle.sweep.specs.declared.Frame.{Frame}
-use Rattle.checker.specs.declared.CheckAnswer.{CheckAnswer}
-use Rattle.checker.specs.Check.{refusal, unless, widthFits, checkRefusal, checkGrid, Checked}
+use Rattle.checker.specs.Check.{widthFits, checkRefusal, checkGrid, Checked}
 use Rattle.checker.specs.Marking.{PinList, Judges}
 use Rattle.checker.proofs.Lists.{listed}
 
-both : (a b : Bool) → a && b ≡ true → (a ≡ true) × (b ≡ true)
-both true b e = (refl, e)
-both false b e = absurd (false≢true e)
+small : {kind w : ℕ} → Known kind → In w (widest kind) → In w widestGrid
+small is-row h = h
+small is-channel h = h
+small is-box h = h
 
-within-in : (a top : ℕ) → within a top ≡ true → In a top
-within-in a top e = let h = both (leb 1 a) (leb a top) e in (leb-true 1 a (h .0), leb-true a top (h .1))
+pub counts : (q : Problem) (w k : ℕ) → widthFits q w && within k mostLayers ≡ true → Known (q .kind) → (w ≤ widestGrid) × (k ≤ mostLayers)
+counts q w k e known =
+    let h = and-eq-true-iff (widthFits q w) (within k mostLayers) .0 e in
+    let i = and-eq-true-iff (within w (widest (q .kind))) _ .0 (h .0) in
+    (small known (within-in w (widest (q .kind)) (i .0)) .1, within-in k mostLayers (h .1) .1)
 
-pub counts : (a : ReadAnswer) (w k : ℕ) → a .n .0 ≤ longestSide → widthFits a w && within k mostLayers ≡ true
-    → (a .n .0 ≤ longestSide) × (w ≤ longestSide) × (k ≤ mostLayers)
-counts a w k n e =
-    let h = both (widthFits a w) (within k mostLayers) e in
-    let i = both (within w longestSide) _ (h .0) in
-    (n, within-in w longestSide (i .0) .1, within-in k mostLayers (h .1) .1)
+module _ (q : Problem) (w : ℕ) (b : Bool) (is : within w (widest (q .kind)) ≡ b) where
+  pub own-width : b ≡ true → q .kind ≡ box → widthFits q w ≡ eqb w (q .byte2)
+  own-width e k = simp (is ∙ e, ap hasOwnWidth k)
+
+  pub any-width : b ≡ true → q .kind ≢ box → widthFits q w ≡ true
+  any-width e k = simp (is ∙ e, boxes-only (q .kind) false true k)
+
+  pub no-width : b ≡ false → widthFits q w ≡ false
+  no-width e = simp (is ∙ e)
 
 -- ---- no refusal
 
-unless-passed : (t : Bool) (r s : CheckAnswer) → r .number ≢ 0 → unless t r s .number ≡ 0 → (t ≡ true) × (s .number ≡ 0)
-unless-passed true r s ne e = (refl, e)
-unless-passed false r s ne e = absurd (ne e)
-
-pub record Passed (a : ReadAnswer) (w k x y : ℕ) : Type 0 where
-  pub read : a .number ≡ 0
-  pub width : In w longestSide
-  pub own : a .kind ≡ box → w ≡ a .byte2
+pub record Passed (t : Reading) (w k x y : ℕ) : Type 0 where
+  pub read : t .refusal .number ≡ 0
+  pub width : In w (widest (t .problem .kind))
+  pub own : t .problem .kind ≡ box → w ≡ t .problem .byte2
   pub layers : In k mostLayers
-  pub size : x ≡ a .n .0 * w * k
-  pub room : a .n .0 * w * k ≤ y
+  pub size : x ≡ t .problem .n .0 * w * k
+  pub room : t .problem .n .0 * w * k ≤ y
 
-pub passed : (a : ReadAnswer) (w k x y : ℕ) → checkRefusal a w k x y .number ≡ 0 → Passed a w k x y
+pub no-refusal : (t : Reading) (w k x y : ℕ) → checkRefusal t w k x y .number ≡ 0 → Passed t w k x y
 unfolding checkRefusal
-passed a w k x y e = elim (ℕ-discrete (a .number) 0) [ yes z ↦ rest z | no n ↦ absurd (n (simp (ne-eqb (a .number) 0 n) at e)) ]
+no-refusal t w k x y e = elim (ℕ-discrete (t .refusal .number) 0) [ yes z ↦ rest z | no n ↦ absurd (n (simp (ne-eqb (t .refusal .number) 0 n) at e)) ]
   where
-    rest : a .number ≡ 0 → Passed a w k x y
+    rest : t .refusal .number ≡ 0 → Passed t w k x y
     rest z =
-        let p = unless-passed (widthFits a w && within k mostLayers) (refusal 11 0) _ (λ q. omega arith) (simp (eq-eqb (a .number) 0 z) at e) in
-        let q = unless-passed (eqb x (a .n .0 * w * k)) (refusal 12 (a .n .0 * w * k)) _ (λ q. omega arith) (p .1) in
-        let r = unless-passed (leb (a .n .0 * w * k) y) (refusal 13 (a .n .0 * w * k)) _ (λ q. omega arith) (q .1) in
-        let h = both (widthFits a w) (within k mostLayers) (p .0) in
-        let i = both (within w longestSide) (cond (eqb (a .kind) box) (eqb w (a .byte2)) true) (h .0) in
+        let size = t .problem .n .0 * w * k in
+        let kind = t .problem .kind in
+        let p = passed (widthFits (t .problem) w && within k mostLayers) (refusal 11 0) _ (λ q. omega arith) (simp (eq-eqb (t .refusal .number) 0 z) at e) in
+        let q = passed (eqb x size) (refusal 12 size) _ (λ q. omega arith) (p .1) in
+        let r = passed (leb size y) (refusal 13 size) _ (λ q. omega arith) (q .1) in
+        let h = and-eq-true-iff (widthFits (t .problem) w) (within k mostLayers) .0 (p .0) in
+        let i = and-eq-true-iff (within w (widest kind)) (cond (hasOwnWidth kind) (eqb w (t .problem .byte2)) true) .0 (h .0) in
         record {
           read = z;
-          width = within-in w longestSide (i .0);
-          own = λ b. eqb-true w (a .byte2) (simp (eq-eqb (a .kind) box b) at (i .1));
+          width = within-in w (widest kind) (i .0);
+          own = λ b. eqb-true w (t .problem .byte2) (simp (ap hasOwnWidth b) at (i .1));
           layers = within-in k mostLayers (h .1);
-          size = eqb-true x (a .n .0 * w * k) (q .0);
-          room = leb-true (a .n .0 * w * k) y (r .0);
+          size = eqb-true x size (q .0);
+          room = leb-true size y (r .0);
         }
 
 -- ---- the call: t is what the bytes s say, and r is the refusal found
 
-abbrev pub frame : Ticket → ℕ → ℕ → Bool → Frame
-frame t w k first = record { n = t .answer .n .0; w = w; k = k; first = first }
+abbrev pub frame : Problem → ℕ → ℕ → Bool → Frame
+frame q w k first = record { n = q .n .0; w = w; k = k; first = first }
 
-pub read-well : (s : List ℕ) (t : Ticket) → t ≡ ticketOf s → t .answer .number ≡ 0 → Good t
-read-well s t e z = subst Good (sym e) (read-good s (sym (ap (λ (u : Ticket). u .answer .number) e) ∙ z))
-
-module _ (s : List ℕ) (t : Ticket) (e : t ≡ ticketOf s) (w k : ℕ) (first : Bool) (x y : List ℕ) (r : CheckAnswer) (is : r ≡ checkRefusal (t .answer) w k (length x) (length y)) where
-  number-is : r .number ≡ checkRefusal (t .answer) w k (length x) (length y) .number
-  number-is = ap (λ (a : CheckAnswer). a .number) is
+module _ (s : List ℕ) (t : Reading) (e : t ≡ ticketOf s) (w k : ℕ) (first : Bool) (x y : List ℕ) (r : Refusal) (is : r ≡ checkRefusal t w k (length x) (length y)) where
+  number-is : r .number ≡ checkRefusal t w k (length x) (length y) .number
+  number-is = ap (λ (a : Refusal). a .number) is
 
   pub refused : r .number ≢ 0 → Checked (ticketOf s) w k first x y y r
   refused ne =
-      subst (λ (u : Ticket). Checked u w k first x y y r) e
+      subst (λ (u : Reading). Checked u w k first x y y r) e
       (record {
         kept = refl;
         refused = λ z. (is, refl);
@@ -96,30 +99,33 @@ module _ (s : List ℕ) (t : Ticket) (e : t ≡ ticketOf s) (w k : ℕ) (first :
       })
 
   module _ (none : r .number ≡ 0) where
-    all-passed : Passed (t .answer) w k (length x) (length y)
-    all-passed = passed (t .answer) w k (length x) (length y) (sym number-is ∙ none)
+    all-passed : Passed t w k (length x) (length y)
+    all-passed = no-refusal t w k (length x) (length y) (sym number-is ∙ none)
 
-    good : Good t
-    good = read-well s t e (all-passed .read)
+    good : Good (t .problem)
+    good = reading-good s e (all-passed .read)
+
+    wide : In w widestGrid
+    wide = small (known (t .problem .kind) (good .kind)) (all-passed .width)
 
     pub room : length x ≤ length y
     room = omega (arith, all-passed .size, all-passed .room)
 
-    pub fits : (m : ℕ) → m ≡ length x → Fits (frame t w k first) 360 360 (length x) m
+    pub fits : (m : ℕ) → m ≡ length x → Fits (frame (t .problem) w k first) pinPlaces pinPlaces (length x) m
     fits m h =
         record {
           pins = refl;
           pin-marks = refl;
-          points = record { shape = record { long = good .columns; wide = all-passed .width; deep = all-passed .layers }; size = all-passed .size; marks = h };
+          points = record { shape = record { long = good .columns; wide = wide; deep = all-passed .layers }; size = all-passed .size; marks = h };
         }
 
-    pub accepted : (y′ list : List ℕ) (a : CheckAnswer) → length y′ ≡ length y → PinList (t .pins) list → Judges (frame t w k first) list x a
+    pub accepted : (y′ list : List ℕ) (a : Refusal) → length y′ ≡ length y → PinList (t .problem .pins) list → Judges (frame (t .problem) w k first) list x a
         → Checked (ticketOf s) w k first x y y′ a
     accepted y′ list a h l j =
-        subst (λ (u : Ticket). Checked u w k first x y y′ a) e
+        subst (λ (u : Reading). Checked u w k first x y y′ a) e
         (record {
           kept = h;
           refused = λ ne. absurd (ne (sym number-is ∙ none));
-          grid = λ z. record { length = refl; width = all-passed .own; columns = good .columns .0; tracks = all-passed .width .0; layers = all-passed .layers .0 };
-          judged = λ z. j .judged (pinsIn (t .pins)) (listed t good list l (checkGrid t w k first) refl (all-passed .width) (all-passed .own));
+          grid = λ z. record { length = refl; width = all-passed .own; columns = good .columns .0; tracks = wide .0; layers = all-passed .layers .0 };
+          judged = λ z. j .judged (pinsIn (t .problem .pins)) (listed (t .problem) good list l (checkGrid (t .problem) w k first) refl wide (all-passed .own));
         })

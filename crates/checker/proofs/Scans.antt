@@ -7,8 +7,10 @@ use native.Mathlib.Omega.{arith}
 use native.Mathlib.Decide.{ℕ-discrete, decLt}
 use lib.ListN.{length, set, replicate, length-replicate, getD-replicate, List·getD-eq-default}
 use lib.Seq.{getD-set-same, getD-set-other}
+use Rattle.sweep.specs.Edges.{pinPlaces}
 use Rattle.sweep.specs.Marks.{at, Spot, a-pin, a-point, val}
-use Rattle.checker.specs.Marking.{Holder, First, Firsts, Opened, Unless, Bare, Least, Lowest, LowestOf}
+use Rattle.checker.specs.Marking.{Holder, First, Firsts, Opened, Unless, Bare, Least, Lowest, LowestOf, noNet}
+use Rattle.terms.specs.Limits.{byteValues}
 
 -- ---- cleared entries
 
@@ -24,21 +26,21 @@ clear-all m i h f q = elim (decLt q i) [ yes l ↦ f q l | no n ↦ List·getD-e
 
 -- ---- the nets of the pins
 
-pub opened-start : (p s : List ℕ) → Opened p s (set (replicate 256 0) 0 1) 0
+pub opened-start : (p s : List ℕ) → Opened p s (set (replicate byteValues 0) 0 1) 0
 opened-start p s =
     record {
       first = λ a h. absurd (omega arith);
       marked = λ a h. absurd (omega arith);
-      known = λ v h ne. elim (ℕ-discrete v 0) [ yes e ↦ inl e | no n ↦ absurd (ne (getD-set-other (replicate 256 0) 0 v 1 0 n ∙ getD-replicate 256 v 0 0 h)) ];
+      known = λ v h ne. elim (ℕ-discrete v 0) [ yes e ↦ inl e | no n ↦ absurd (ne (getD-set-other (replicate byteValues 0) 0 v 1 0 n ∙ getD-replicate byteValues v 0 0 h)) ];
       unknown = λ v h z. (λ e. zero v z e, λ o. omega (arith, o .1));
     }
   where
-    zero : (v : ℕ) → at (set (replicate 256 0) 0 1) v ≡ 0 → v ≡ 0 → ⊥
+    zero : (v : ℕ) → at (set (replicate byteValues 0) 0 1) v ≡ 0 → v ≡ 0 → ⊥
     zero v z e =
-        let o : at (set (replicate 256 0) 0 1) v ≡ 1 = ap (at (set (replicate 256 0) 0 1)) e ∙ getD-set-same (replicate 256 0) 0 1 0 (rw length-replicate (omega arith)) in
+        let o : at (set (replicate byteValues 0) 0 1) v ≡ 1 = ap (at (set (replicate byteValues 0) 0 1)) e ∙ getD-set-same (replicate byteValues 0) 0 1 0 (rw length-replicate (omega arith)) in
         omega arith
 
-module _ (p s k : List ℕ) (a r : ℕ) (opened : Opened p s k a) (in-s : a < length s) (in-k : at p a < length k) (byte : at p a < 256) (mark : Unless (at k (at p a)) r) where
+module _ (p s k : List ℕ) (a r : ℕ) (opened : Opened p s k a) (in-s : a < length s) (in-k : at p a < length k) (byte : at p a < byteValues) (mark : Unless (at k (at p a)) r) where
   new-known : r ≢ 0 → at k (at p a) ≡ 0
   new-known h = elim (ℕ-discrete (at k (at p a)) 0) [ yes z ↦ z | no n ↦ absurd (h (mark .old n)) ]
 
@@ -81,7 +83,7 @@ module _ (p s k : List ℕ) (a r : ℕ) (opened : Opened p s k a) (in-s : a < le
       earlier v n none b l e = elim (ℕ-discrete b a) [ yes q ↦ n (sym e ∙ ap (at p) q) | no o ↦ none (b, omega arith, e) ]
 
 -- the same, with the number of the pin under another name
-pub opened-at : (p s k : List ℕ) (a v r : ℕ) → v ≡ at p a → Opened p s k a → a < length s → at p a < length k → at p a < 256 → Unless (at k v) r
+pub opened-at : (p s k : List ℕ) (a v r : ℕ) → v ≡ at p a → Opened p s k a → a < length s → at p a < length k → at p a < byteValues → Unless (at k v) r
     → Opened p (set s a r) (set k v 1) (a + 1)
 opened-at p s k a v r e o i j b m =
     subst (λ (u : ℕ). Opened p (set s a r) (set k u 1) (a + 1)) (sym e) (opened-more p s k a r o i j b (subst (λ (u : ℕ). Unless (at k u) r) e m))
@@ -89,19 +91,19 @@ opened-at p s k a v r e o i j b m =
 pub opened-all : (p s k : List ℕ) (a top : ℕ) → a ≡ top → Opened p s k a → Opened p s k top
 opened-all p s k a top e o = subst (Opened p s k) e o
 
-pub all-firsts : (p s k : List ℕ) → length p ≡ 360 → length s ≡ 360 → Opened p s k 360 → Firsts p s
+pub all-firsts : (p s k : List ℕ) → length p ≡ pinPlaces → length s ≡ pinPlaces → Opened p s k pinPlaces → Firsts p s
 all-firsts p s k e f o =
     record {
       first = λ a ne. o .first a (within s f a ne) ne;
       marked = λ a h. o .marked a (within p e a (h .some)) h;
     }
   where
-    within : (l : List ℕ) → length l ≡ 360 → (a : ℕ) → at l a ≢ 0 → a < 360
-    within l g a ne = elim (decLt a 360) [ yes h ↦ h | no n ↦ absurd (ne (List·getD-eq-default l 0 (omega arith))) ]
+    within : (l : List ℕ) → length l ≡ pinPlaces → (a : ℕ) → at l a ≢ 0 → a < pinPlaces
+    within l g a ne = elim (decLt a pinPlaces) [ yes h ↦ h | no n ↦ absurd (ne (List·getD-eq-default l 0 (omega arith))) ]
 
 -- ---- the smallest net without a mark
 
-pub lowest-none : (x m : List ℕ) → Lowest x m 0 255
+pub lowest-none : (x m : List ℕ) → Lowest x m 0 noNet
 lowest-none x m = record { small = omega arith; under = λ a h. absurd (omega arith); has = λ h. absurd (omega arith) }
 
 pub lowest-more : (x m : List ℕ) (q best u r : ℕ) → Lowest x m q best → Bare (at x q) (at m q) u → Least best u r → Lowest x m (q + 1) r
@@ -128,10 +130,10 @@ module _ (p s x m : List ℕ) (a b r : ℕ) (pins : Lowest p s (length p) a) (po
   none-under (a-pin c) ne z = omega (arith, least .first, pins .under c (inside p c ne) ne z)
   none-under (a-point c) ne z = omega (arith, least .second, points .under c (inside x c ne) ne z)
 
-  pub lowest-none-of : r ≡ 255 → LowestOf p s x m 0
+  pub lowest-none-of : r ≡ noNet → LowestOf p s x m 0
   lowest-none-of e = record { under = λ c ne h o z. omega (arith, none-under c ne z); has = λ ne. absurd (ne refl) }
 
-  pub lowest-of : r ≢ 255 → LowestOf p s x m r
+  pub lowest-of : r ≢ noNet → LowestOf p s x m r
   lowest-of ne =
       record {
         under = λ c nz h o z. ⊎-elim (λ e. absurd (some (small) e)) (λ l. absurd (omega (arith, none-under c nz z))) o;
@@ -139,8 +141,8 @@ module _ (p s x m : List ℕ) (a b r : ℕ) (pins : Lowest p s (length p) a) (po
             (λ e. (let o = points .has (omega (arith, small)) in (a-point (o .0), o .2 ∙ sym e, o .3))) (least .one);
       }
     where
-      small : r < 255
-      small = let h : r ≤ 255 = omega (arith, least .first, pins .small) in omega arith
+      small : r < noNet
+      small = let h : r ≤ noNet = omega (arith, least .first, pins .small) in omega arith
 
-      some : r < 255 → r ≡ 0 → ⊥
+      some : r < noNet → r ≡ 0 → ⊥
       some h z = ⊎-elim (λ e. pins .has (omega arith) .4 (sym e ∙ z)) (λ e. points .has (omega arith) .4 (sym e ∙ z)) (least .one)

@@ -1,12 +1,10 @@
 -- Check: what it answers, for every input.
 --
---   refusal number place      "Each refusal is a number and a place", "Otherwise number and place are 0 .. Check nothing more"
---   unless t r s              r where the test t fails, else s
---   widthFits a w             w is one that the ticket's wirings have; "w outside 1 to 90, or not a box's own w"
---   checkRefusal a w k x y    the refusals before the wiring is looked at, by Read's answer a, the wiring's length x and the scratch's length y:
+--   widthFits q w             w is one that the ticket's wirings have; "w outside 1 to 90, or not a box's own w"
+--   checkRefusal t w k x y    the refusals before the wiring is looked at, by the reading t, the wiring's length x and the scratch's length y:
 --                             "Those of Read; 11, w outside 1 to 90, or not a box's own w, or k outside 1 to 255 (0); 12, wiring length not n × w × k (the
 --                             right length); 13, scratch shorter than that (the length needed)"
---   checkGrid t w k first     the grid: the ticket's n, and the counts and the direction that Check is given
+--   checkGrid q w k first     the grid: the ticket's n, and the counts and the direction that Check is given
 --   Foreign g p x q           "a nonzero point that holds no net of the ticket", byte q of the buffer
 --   FirstForeign g p x q      "14, .. (the first point, in buffer order)"
 --   OnePiece g p x m          all that holds net m is linked; "for each net, its pins and points form one joined piece"
@@ -22,34 +20,30 @@ use mathlib.Core.List.{List}
 use lib.Dec.{eqb, leb}
 use lib.ListN.{length, getD}
 use Rattle.counting.specs.Counting.{In}
-use Rattle.grid.specs.Grid.{Grid, Side, Node, places}
-use Rattle.grid.specs.Legal.{Pins, Wiring, Held, Linked, Legal, GridOf, box, wiringOf}
-use Rattle.grid.specs.Limits.{longestSide, mostLayers, within}
-use Rattle.ticket.specs.Format.{pinsIn}
-use Rattle.ticket.specs.declared.ReadAnswer.{ReadAnswer}
-use Rattle.ticket.specs.declared.Ticket.{Ticket}
-use Rattle.checker.specs.declared.CheckAnswer.{CheckAnswer}
+use Rattle.terms.specs.Kinds.{Side, hasOwnWidth, widest}
+use Rattle.grid.specs.Grid.{Grid, Node, places}
+use Rattle.terms.specs.Limits.{mostLayers, within}
+use Rattle.grid.specs.Legal.{Pins, Wiring, Held, Linked, Legal, GridOf, wiringOf}
+use Rattle.problem.specs.declared.Problem.{Problem}
+use Rattle.problem.specs.Problem.{pinsIn}
+use Rattle.terms.specs.declared.Refusal.{Refusal}
+use Rattle.terms.specs.Refusals.{refusal, accepted, unless}
+use Rattle.ticket.specs.declared.Reading.{Reading}
 
 -- ---- before the wiring is looked at
 
-abbrev pub refusal : ℕ → ℕ → CheckAnswer
-refusal number place = record { number = number; place = place }
+abbrev pub widthFits : Problem → ℕ → Bool
+widthFits q w = within w (widest (q .kind)) && cond (hasOwnWidth (q .kind)) (eqb w (q .byte2)) true
 
-abbrev pub unless : Bool → CheckAnswer → CheckAnswer → CheckAnswer
-unless t r s = cond t s r
+unfoldable pub checkRefusal : Reading → ℕ → ℕ → ℕ → ℕ → Refusal
+checkRefusal t w k x y =
+    unless (accepted (t .refusal)) (t .refusal)
+    (unless (widthFits (t .problem) w && within k mostLayers) (refusal 11 0)
+    (unless (eqb x (t .problem .n .0 * w * k)) (refusal 12 (t .problem .n .0 * w * k))
+    (unless (leb (t .problem .n .0 * w * k) y) (refusal 13 (t .problem .n .0 * w * k)) (refusal 0 0))))
 
-abbrev pub widthFits : ReadAnswer → ℕ → Bool
-widthFits a w = within w longestSide && cond (eqb (a .kind) box) (eqb w (a .byte2)) true
-
-unfoldable pub checkRefusal : ReadAnswer → ℕ → ℕ → ℕ → ℕ → CheckAnswer
-checkRefusal a w k x y =
-    unless (eqb (a .number) 0) (refusal (a .number) (a .place))
-    (unless (widthFits a w && within k mostLayers) (refusal 11 0)
-    (unless (eqb x (a .n .0 * w * k)) (refusal 12 (a .n .0 * w * k))
-    (unless (leb (a .n .0 * w * k) y) (refusal 13 (a .n .0 * w * k)) (refusal 0 0))))
-
-abbrev pub checkGrid : Ticket → ℕ → ℕ → Bool → Grid
-checkGrid t w k first = record { n = t .answer .n .0; w = w; k = k; first = first }
+abbrev pub checkGrid : Problem → ℕ → ℕ → Bool → Grid
+checkGrid q w k first = record { n = q .n .0; w = w; k = k; first = first }
 
 -- ---- what is found in it
 
@@ -78,7 +72,7 @@ pub record FirstBroken (g : Grid) (p : Pins) (x : List ℕ) (m : ℕ) : Type 0 w
   pub broken : Broken g p (wiringOf g x) m
   pub first : (o : ℕ) → o ≢ 0 → o < m → OnePiece g p (wiringOf g x) o
 
-pub record Judged (g : Grid) (p : Pins) (x : List ℕ) (r : CheckAnswer) : Type 0 where
+pub record Judged (g : Grid) (p : Pins) (x : List ℕ) (r : Refusal) : Type 0 where
   pub accepts : (r .number ≡ 0) ↔ Legal g p (wiringOf g x)
   pub number : (r .number ≡ 0) ⊎ ((r .number ≡ 14) ⊎ (r .number ≡ 15))
   pub place : r .number ≡ 0 → r .place ≡ 0
@@ -87,8 +81,9 @@ pub record Judged (g : Grid) (p : Pins) (x : List ℕ) (r : CheckAnswer) : Type 
 
 -- ---- the call: t is what the ticket says, x the wiring, y the scratch as it was and y′ as it is left
 
-pub record Checked (t : Ticket) (w k : ℕ) (first : Bool) (x y y′ : List ℕ) (r : CheckAnswer) : Type 0 where
+pub record Checked (t : Reading) (w k : ℕ) (first : Bool) (x y y′ : List ℕ) (r : Refusal) : Type 0 where
   pub kept : length y′ ≡ length y
-  pub refused : checkRefusal (t .answer) w k (length x) (length y) .number ≢ 0 → (r ≡ checkRefusal (t .answer) w k (length x) (length y)) × (y′ ≡ y)
-  pub grid : checkRefusal (t .answer) w k (length x) (length y) .number ≡ 0 → GridOf (t .answer .kind) (t .answer .n .0) (t .answer .byte2) (checkGrid t w k first)
-  pub judged : checkRefusal (t .answer) w k (length x) (length y) .number ≡ 0 → Judged (checkGrid t w k first) (pinsIn (t .pins)) x r
+  pub refused : checkRefusal t w k (length x) (length y) .number ≢ 0 → (r ≡ checkRefusal t w k (length x) (length y)) × (y′ ≡ y)
+  pub grid : checkRefusal t w k (length x) (length y) .number ≡ 0
+      → GridOf (t .problem .kind) (t .problem .n .0) (t .problem .byte2) (checkGrid (t .problem) w k first)
+  pub judged : checkRefusal t w k (length x) (length y) .number ≡ 0 → Judged (checkGrid (t .problem) w k first) (pinsIn (t .problem .pins)) x r

@@ -1,55 +1,60 @@
 -- What the inner functions of Check find, by index. Cited by their contracts alone: Check's own promise is in Check.antt.
 --
---   PinList pins list     the list has the four sides' places, 90 each
+--   noNet                 the largest byte, which is no net's number
+--   PinList pins list     the list has the four sides' places
 --   Listed g p list       the list has the pins p of the grid, each at its place, and no others
---   Put list side r from  r is the list with a side's 90 places from `from` on
+--   Put list side r from  r is the list with a side's places from `from` on
 --   Holder p top v        one of the first top entries of the pin list holds v
 --   First p a             pin a is the first in the list that holds its net
 --   Firsts p s            each net's first pin is marked in s, and no other
---   Opened p s k top      of the first top pins: each net's first is marked in s, and k is 0 just for the numbers of no net (of 256; 0 counts as known)
+--   Opened p s k top      of the first top pins: each net's first is marked in s, and k is 0 just for the numbers of no net (of all bytes; 0 counts as known)
 --   FirstUnknown k x r    r is the first point of x whose number is unknown, or x's length
 --   Unless known r        r marks a pin whose net was not known yet
---   Bare v mark r         r is v where that is a net without a mark, else 255
+--   Bare v mark r         r is v where that is a net without a mark, else noNet
 --   Least a b r           r is the smaller of a and b
---   Lowest x m top r      r is the smallest number but 0 that one of the first top entries of x holds without a mark in m, or 255
+--   Lowest x m top r      r is the smallest number but 0 that one of the first top entries of x holds without a mark in m, or noNet
 --   Marking g p x s m     the marks s and m began with the first pins and have settled
---   LowestOf p s x m r    r is the smallest net of a spot without a mark, or 0; 255 is no net
+--   LowestOf p s x m r    r is the smallest net of a spot without a mark, or 0
 --   Torn g p x r          r is the smallest net with a spot that settled marks leave out, or 0
 --   Judges f list x r     r is what Check finds, whatever the pins that the list has
-use Prim.Native.Nat.{ℕ, _+_, _≤_, _<_}
+use Prim.Native.Nat.{ℕ, _+_, _-_, _≤_, _<_}
 use mathlib.Core.Path.{_≡_}
 use mathlib.Core.Logic.{_⊎_, _≢_}
 use mathlib.Core.List.{List}
 use lib.ListN.{length}
 use Rattle.counting.specs.Counting.{In}
-use Rattle.grid.specs.Grid.{Grid, Side, places}
-use Rattle.grid.specs.Legal.{Pins, topNet}
-use Rattle.grid.specs.Limits.{longestSide}
+use Rattle.terms.specs.Kinds.{Side}
+use Rattle.terms.specs.Limits.{longestSide, largestNet, byteValues}
+use Rattle.grid.specs.Grid.{Grid, places}
+use Rattle.grid.specs.Legal.{Pins}
 use Rattle.sweep.specs.Marks.{at, Spot, val, two, Settled}
-use Rattle.sweep.specs.Edges.{gridOf, pinAt, Edges}
+use Rattle.sweep.specs.Edges.{gridOf, southStart, westStart, eastStart, pinPlaces, pinAt, Edges}
+use Rattle.terms.specs.declared.Refusal.{Refusal}
 use Rattle.sweep.specs.declared.Frame.{Frame}
-use Rattle.ticket.specs.declared.Pins.{Pins as TicketPins}
-use Rattle.checker.specs.declared.CheckAnswer.{CheckAnswer}
+use Rattle.problem.specs.declared.Pins.{Pins as TicketPins}
 use Rattle.checker.specs.Check.{Judged}
 
+abbrev pub noNet : ℕ
+noNet = byteValues - 1
+
 pub record PinList (pins : TicketPins) (list : List ℕ) : Type 0 where
-  pub size : length list ≡ 360
-  pub north : (i : ℕ) → i < 90 → at list i ≡ at (pins .north) i
-  pub south : (i : ℕ) → i < 90 → at list (90 + i) ≡ at (pins .south) i
-  pub west : (i : ℕ) → i < 90 → at list (180 + i) ≡ at (pins .west) i
-  pub east : (i : ℕ) → i < 90 → at list (270 + i) ≡ at (pins .east) i
+  pub size : length list ≡ pinPlaces
+  pub north : (i : ℕ) → i < longestSide → at list i ≡ at (pins .north) i
+  pub south : (i : ℕ) → i < longestSide → at list (southStart + i) ≡ at (pins .south) i
+  pub west : (i : ℕ) → i < longestSide → at list (westStart + i) ≡ at (pins .west) i
+  pub east : (i : ℕ) → i < longestSide → at list (eastStart + i) ≡ at (pins .east) i
 
 pub record Listed (g : Grid) (p : Pins) (list : List ℕ) : Type 0 where
   pub long : In (g .n) longestSide
   pub wide : In (g .w) longestSide
   pub there : (s : Side) (a : ℕ) → In a (places g s) → p s a ≡ at list (pinAt s a)
   pub back : (b : ℕ) → at list b ≢ 0 → (s : Side) × (a : ℕ) × In a (places g s) × (pinAt s a ≡ b)
-  pub small : (b : ℕ) → at list b ≤ topNet
+  pub small : (b : ℕ) → at list b ≤ largestNet
 
 pub record Put (list side r : List ℕ) (from : ℕ) : Type 0 where
   pub size : length r ≡ length list
-  pub inside : (i : ℕ) → i < 90 → at r (from + i) ≡ at side i
-  pub outside : (b : ℕ) → (b < from) ⊎ (from + 90 ≤ b) → at r b ≡ at list b
+  pub inside : (i : ℕ) → i < longestSide → at r (from + i) ≡ at side i
+  pub outside : (b : ℕ) → (b < from) ⊎ (from + longestSide ≤ b) → at r b ≡ at list b
 
 abbrev pub Holder : List ℕ → ℕ → ℕ → Type 0
 Holder p top v = (a : ℕ) × (a < top) × (at p a ≡ v)
@@ -61,8 +66,8 @@ pub record First (p : List ℕ) (a : ℕ) : Type 0 where
 pub record Opened (p s k : List ℕ) (top : ℕ) : Type 0 where
   pub first : (a : ℕ) → a < top → at s a ≢ 0 → First p a
   pub marked : (a : ℕ) → a < top → First p a → at s a ≢ 0
-  pub known : (v : ℕ) → v < 256 → at k v ≢ 0 → (v ≡ 0) ⊎ Holder p top v
-  pub unknown : (v : ℕ) → v < 256 → at k v ≡ 0 → (v ≢ 0) × (Holder p top v → ⊥)
+  pub known : (v : ℕ) → v < byteValues → at k v ≢ 0 → (v ≡ 0) ⊎ Holder p top v
+  pub unknown : (v : ℕ) → v < byteValues → at k v ≡ 0 → (v ≢ 0) × (Holder p top v → ⊥)
 
 pub record FirstUnknown (k x : List ℕ) (r : ℕ) : Type 0 where
   pub within : r ≤ length x
@@ -75,8 +80,8 @@ pub record Unless (known r : ℕ) : Type 0 where
 
 pub record Bare (v mark r : ℕ) : Type 0 where
   pub net : v ≢ 0 → mark ≡ 0 → r ≤ v
-  pub has : r < 255 → (v ≡ r) × (mark ≡ 0) × (r ≢ 0)
-  pub small : r ≤ 255
+  pub has : r < noNet → (v ≡ r) × (mark ≡ 0) × (r ≢ 0)
+  pub small : r ≤ noNet
 
 pub record Least (a b r : ℕ) : Type 0 where
   pub first : r ≤ a
@@ -84,9 +89,9 @@ pub record Least (a b r : ℕ) : Type 0 where
   pub one : (r ≡ a) ⊎ (r ≡ b)
 
 pub record Lowest (x m : List ℕ) (top r : ℕ) : Type 0 where
-  pub small : r ≤ 255
+  pub small : r ≤ noNet
   pub under : (a : ℕ) → a < top → at x a ≢ 0 → at m a ≡ 0 → r ≤ at x a
-  pub has : r < 255 → (a : ℕ) × (a < top) × (at x a ≡ r) × (at m a ≡ 0) × (r ≢ 0)
+  pub has : r < noNet → (a : ℕ) × (a < top) × (at x a ≡ r) × (at m a ≡ 0) × (r ≢ 0)
 
 pub record Firsts (p s : List ℕ) : Type 0 where
   pub first : (a : ℕ) → at s a ≢ 0 → First p a
@@ -100,7 +105,7 @@ pub record Marking (g : Grid) (p x s m : List ℕ) : Type 0 where
   pub settled : Settled (val p x) (two s₀ m₀) (two s m) (Edges g)
 
 pub record LowestOf (p s x m : List ℕ) (r : ℕ) : Type 0 where
-  pub under : (a : Spot) → val p x a ≢ 0 → val p x a < 255 → (r ≡ 0) ⊎ (val p x a < r) → val s m a ≢ 0
+  pub under : (a : Spot) → val p x a ≢ 0 → val p x a < noNet → (r ≡ 0) ⊎ (val p x a < r) → val s m a ≢ 0
   pub has : r ≢ 0 → (a : Spot) × (val p x a ≡ r) × (val s m a ≡ 0)
 
 pub record Torn (g : Grid) (p x : List ℕ) (r : ℕ) : Type 0 where
@@ -109,5 +114,5 @@ pub record Torn (g : Grid) (p x : List ℕ) (r : ℕ) : Type 0 where
   pub marking : Marking g p x s m
   pub lowest : LowestOf p s x m r
 
-pub record Judges (f : Frame) (list x : List ℕ) (r : CheckAnswer) : Type 0 where
+pub record Judges (f : Frame) (list x : List ℕ) (r : Refusal) : Type 0 where
   pub judged : (p : Pins) → Listed (gridOf f) p list → Judged (gridOf f) p x r

@@ -10,13 +10,14 @@ use lib.Dec.{eqb}
 use borrow.Author.Tests.{eq-eqb}
 use Rattle.counting.specs.Counting.{In, bit}
 use Rattle.counting.proofs.Counts.{most-le, pigeonhole, ceil-le}
-use Rattle.grid.specs.Grid.{Grid, west, east, columnOf}
-use Rattle.grid.specs.Legal.{Pins, Wiring, Held, Linked, Legal, topNet, box, GridOf}
+use Rattle.terms.specs.Kinds.{west, east, box}
+use Rattle.terms.specs.Limits.{largestNet}
+use Rattle.grid.specs.Grid.{Grid, columnOf}
+use Rattle.grid.specs.Legal.{Pins, Wiring, Held, Linked, Legal, GridOf}
 use Rattle.grid.proofs.Pins.{Bare}
 use Rattle.grid.proofs.Motion.{turned, turn, movedPins, movedWiring}
 use Rattle.grid.proofs.Motions.{turn-legal}
 use Rattle.density.specs.Density.{passes, across, up, horizontals, verticals, tracksFor, floor, floorOf}
-use Rattle.density.specs.Rivals.{Narrowest, Lowest}
 use Rattle.density.proofs.Free.{across-free, floor-box}
 use Rattle.density.proofs.Tracks.{up-turned}
 use Rattle.density.proofs.Layers.{horizontals-are, verticals-are, halves}
@@ -38,9 +39,9 @@ module _ (g : Grid) (p : Pins) (x : Wiring) (y : Legal g p x) where
 
   pub across-fits : across g p ≤ horizontals g * g .w
   unfolding across
-  across-fits = most-le _ (g .n) _ (λ c i. pigeonhole (passes g p c) topNet _ (x c) (g .w) (g .k) (found c i))
+  across-fits = most-le _ (g .n) _ (λ c i. pigeonhole (passes g p c) largestNet _ (x c) (g .w) (g .k) (found c i))
     where
-      found : (c : ℕ) → In c (g .n) → (m : ℕ) → In m topNet → passes g p c m ≡ true
+      found : (c : ℕ) → In c (g .n) → (m : ℕ) → In m largestNet → passes g p c m ≡ true
           → (j : ℕ) × (l : ℕ) × In j (g .w) × In l (g .k) × (eqb ((l + bit (g .first)) % 2) 0 ≡ true) × (x c j l ≡ m)
       found c i m h e =
           let (a, b, d) = passes-iff g p c m .0 e in
@@ -48,7 +49,8 @@ module _ (g : Grid) (p : Pins) (x : Wiring) (y : Legal g p x) where
           (j, l, ij, il, eq-eqb _ _ f, q)
 
 pub up-fits : (g : Grid) (p : Pins) (x : Wiring) → Legal g p x → up g p ≤ verticals g * g .n
-up-fits g p x y = rw (up-turned g p, verticals-are g, ← horizontals-are (turned g)) (across-fits (turned g) (movedPins turn p) (movedWiring turn x) (turn-legal g p x .0 y))
+up-fits g p x y = rw (up-turned g p, verticals-are g, ← horizontals-are (turned g))
+    (across-fits (turned g) (movedPins turn p) (movedWiring turn x) (turn-legal g p x .0 y))
 
 module _ (g : Grid) (p : Pins) (x : Wiring) (y : Legal g p x) where
   -- with at most h horizontal layers the grid has at least so many tracks
@@ -66,11 +68,11 @@ module _ (g : Grid) (p : Pins) (x : Wiring) (y : Legal g p x) where
 
 -- ---- against every rival
 
-pub narrowest : {kind n w : ℕ} {g : Grid} (h : ℕ) (p : Pins) → GridOf kind n w g → Bare p west → Bare p east
-    → Narrowest kind n w h p (tracksFor h (across g p))
-narrowest {kind} {n} {w} {g} h p d bw be = record {
-  rivals = λ g′ x d′ y few. rw (across-free g g′ p (d .length ∙ sym (d′ .length)) bw be) (tracks-needed g′ p x y h (d′ .tracks) few);
-}
+-- g is any grid of the same length, without pins to the west and the east
+pub narrowest : (g g′ : Grid) (h : ℕ) (p : Pins) (x : Wiring) → g .n ≡ g′ .n → 1 ≤ g′ .w → Bare p west → Bare p east → Legal g′ p x → horizontals g′ ≤ h
+    → tracksFor h (across g p) ≤ g′ .w
+narrowest g g′ h p x same low bw be y few = rw (across-free g g′ p same bw be) (tracks-needed g′ p x y h low few)
 
-pub lowest : {n w : ℕ} {g : Grid} (p : Pins) → GridOf box n w g → Lowest n w p (floorOf g p)
-lowest {n} {w} {g} p d = record { rivals = λ g′ x d′ y. rw (floor-box d d′ p) (layers-needed g′ p x y (d′ .layers)) }
+-- g is any grid of the same box
+pub lowest : {n w : ℕ} {g g′ : Grid} (p : Pins) (x : Wiring) → GridOf box n w g → GridOf box n w g′ → Legal g′ p x → floorOf g p ≤ g′ .k
+lowest {g′ = g′} p x d d′ y = rw (floor-box d d′ p) (layers-needed g′ p x y (d′ .layers))

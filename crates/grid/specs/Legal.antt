@@ -6,11 +6,9 @@
 --   Held g p x m u       u is in the grid and holds net m
 --   Linked g p x m u v   a chain of joined nodes from u to v that all hold net m; "one joined piece"
 --   Legal g p x          "every nonzero point holds a net of the ticket and, for each net, its pins and points form one joined piece"
---   topNet               the largest net number; "one net number, 1 to 180"
 --   nets t               how many nets pass the test t; "the largest number of nets any column must pass"
---   row, channel, box    "kind: 1 row, 2 channel, 3 box"
---   GridOf kind n w g    g is the grid of a wiring of a ticket; "A wiring of a ticket has the ticket's n and, for a box, its w. Its other counts
---                        are any numbers from 1 up, and its first layer has either direction"
+--   GridOf kind n w g    g is the grid of a wiring of a ticket; "A wiring of a ticket has the ticket's n and, for a box, its w. Its other
+--                        counts are any numbers from 1 up, and its first layer has either direction"
 --   index g i j l        "point (i, j, l) at ((l - 1) × w + (j - 1)) × n + i - 1"
 --   wiringOf g buffer    the wiring that a buffer holds
 --   entry list a         entry a of a list, counted from 1 as places are; 0 outside
@@ -22,7 +20,9 @@ use mathlib.Core.Bool.{Bool}
 use mathlib.Core.List.{List, _∷_}
 use lib.ListN.{getD}
 use Rattle.counting.specs.Counting.{count}
-use Rattle.grid.specs.Grid.{Grid, Side, north, south, west, east, Node, pin, point, Inside, Joined}
+use Rattle.terms.specs.Kinds.{Side, north, south, west, east, box}
+use Rattle.terms.specs.Limits.{largestNet}
+use Rattle.grid.specs.Grid.{Grid, Node, pin, point, Inside, Joined}
 
 abbrev pub Pins : Type 0
 Pins = Side → ℕ → ℕ
@@ -46,20 +46,8 @@ pub record Legal (g : Grid) (p : Pins) (x : Wiring) : Type 0 where
   pub known : (m i j l : ℕ) → m ≢ 0 → Held g p x m (point i j l) → (s : Side) × (a : ℕ) × Held g p x m (pin s a)
   pub whole : (m : ℕ) (u v : Node) → m ≢ 0 → Held g p x m u → Held g p x m v → Linked g p x m u v
 
-abbrev pub topNet : ℕ
-topNet = 180
-
 abbrev pub nets : (ℕ → Bool) → ℕ
-nets t = count t topNet
-
-abbrev pub row : ℕ
-row = 1
-
-abbrev pub channel : ℕ
-channel = 2
-
-abbrev pub box : ℕ
-box = 3
+nets t = count t largestNet
 
 -- for a row and a channel w is not read
 pub record GridOf (kind n w : ℕ) (g : Grid) : Type 0 where

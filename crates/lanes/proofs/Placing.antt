@@ -12,7 +12,8 @@ use lib.Seq.{getD-set-same, getD-set-other, set-getD}
 use Rattle.counting.specs.Counting.{In, bit, count}
 use Rattle.counting.proofs.Sums.{split, sum-change, sum-more, sum-grows, sum-part}
 use Rattle.counting.proofs.Counts.{count-same, count-le}
-use Rattle.grid.specs.Legal.{entry, topNet, nets}
+use Rattle.terms.specs.Limits.{largestNet}
+use Rattle.grid.specs.Legal.{entry, nets}
 use Rattle.switchbox_law.specs.Rules.{wanted}
 use Rattle.switchbox_law.specs.Drawing.{Lanes}
 use Rattle.lanes.specs.Tables.{Nets, tallies, Asked}
@@ -133,7 +134,8 @@ module _ (own : List ℕ) (need left : List Bool) (spare lanes : List ℕ) (n i 
         go (no x) (yes y) = absurd (new j (sym (there j x) ∙ e ∙ ap (λ (t : ℕ). getD (set lanes i (getD own i 0)) t 0) y ∙ here))
         go (no x) (no y) = h .once j k (λ t. z (there j x ∙ t)) (sym (there j x) ∙ e ∙ there k y)
 
-    one-got : (m : ℕ) → getD need m false ≡ true → getD (set left (getD own i 0) false) m false ≡ false → (j : ℕ) × (getD (set lanes i (getD own i 0)) j 0 ≡ m)
+    one-got : (m : ℕ) → getD need m false ≡ true → getD (set left (getD own i 0) false) m false ≡ false → (j : ℕ) ×
+        (getD (set lanes i (getD own i 0)) j 0 ≡ m)
     one-got m t f = by-cases (ℕ-discrete m (getD own i 0))
         (λ q. (i, here ∙ sym q))
         (λ q. let (j, e) = h .got m t (sym (other m q) ∙ f) in
@@ -141,7 +143,7 @@ module _ (own : List ℕ) (need left : List Bool) (spare lanes : List ℕ) (n i 
 
     one-all : nets (λ m. getD (set left (getD own i 0) false) m false) + (i + 1) ≡ nets (λ m. getD need m false) + n
     one-all =
-        let change = sum-change (λ m. bit (getD left m false)) (λ m. bit (getD (set left (getD own i 0) false) m false)) (getD own i 0) topNet
+        let change = sum-change (λ m. bit (getD left m false)) (λ m. bit (getD (set left (getD own i 0) false) m false)) (getD own i 0) largestNet
         (omega (arith, net)) (λ m d. ap bit (sym (other m d))) in
         omega (arith, h .all, change, ap bit on, ap bit gone)
 
@@ -199,7 +201,8 @@ module _ (left : List Bool) where
       next = sum-more (λ m. bit (getD left m false)) k
 
       go : (p : ℕ) → p < n + c → Dec (p ≡ n)
-          → In (getD (set list n (k + 1)) p 0) topNet × (getD left (getD (set list n (k + 1)) p 0) false ≡ true) × (among (getD (set list n (k + 1)) p 0) ≡ suc p)
+          → In (getD (set list n (k + 1)) p 0) largestNet × (getD left (getD (set list n (k + 1)) p 0) false ≡ true) ×
+          (among (getD (set list n (k + 1)) p 0) ≡ suc p)
       go p b (yes q) = split (getD left (k + 1) false)
           (λ t. rw (q, getD-set-same list n (k + 1) 0 (omega (arith, count-le (λ m. getD left m false) k))) (omega arith, t, omega (arith, next, ap bit t)))
           (λ f. absurd (omega (arith, ap bit f)))
@@ -218,7 +221,8 @@ spread-more placed spare list lanes n p d l h = record {
   long = simp length-set (h .long);
   put = λ q b. by-cases (ℕ-discrete q p)
       (λ e. rw e (getD-set-same lanes (getD spare p 0) (getD list p 0) 0 (omega (arith, h .long, d .inside p l))))
-      (λ e. getD-set-other lanes (getD spare p 0) (getD spare q 0) (getD list p 0) 0 (λ f. omega (arith, d .apart q p (omega (arith, e)) l)) ∙ h .put q (omega (arith, e)));
+      (λ e. getD-set-other lanes (getD spare p 0) (getD spare q 0) (getD list p 0) 0 (λ f. omega (arith, d .apart q p (omega (arith, e)) l)) ∙ h .put q
+      (omega (arith, e)));
   kept = λ i f. getD-set-other lanes (getD spare p 0) i (getD list p 0) 0 (λ e. f p (omega arith) (sym e)) ∙ h .kept i (λ q b. f q (omega arith));
 }
 
@@ -227,7 +231,8 @@ find : (xs : List ℕ) (n v : ℕ) → ((p : ℕ) × (p < n) × (getD xs p 0 ≡
 find xs zero v = inr (λ p l. absurd (omega arith))
 find xs (suc n) v = by-cases (ℕ-discrete (getD xs n 0) v)
     (λ e. inl (n, omega arith, e))
-    (λ d. ⊎-elim (λ r. inl (r .0, omega (arith, r .1), r .2)) (λ f. inr (λ p l. by-cases (ℕ-discrete p n) (λ q. rw q d) (λ q. f p (omega (arith, q))))) (find xs n v))
+    (λ d. ⊎-elim (λ r. inl (r .0, omega (arith, r .1), r .2)) (λ f. inr (λ p l. by-cases (ℕ-discrete p n) (λ q. rw q d) (λ q. f p (omega (arith, q)))))
+    (find xs n v))
 
 -- ---- both passes
 
@@ -236,25 +241,33 @@ module _ (first : Bool) (a b c d own : List ℕ) (top : ℕ) (ask : Asked a b c 
     (left : List Bool) (spare placed : List ℕ) (n : ℕ) (took : Took own need left spare placed n top) where
   -- there are lanes enough
   enough : nets (λ m. getD left m false) ≤ n
-  enough = omega (arith, took .all, ask .room, count-same (λ m. getD need m false) (wanted first (tallies a b c d)) topNet (λ m i. needed m (omega arith)))
+  enough = omega (
+    arith,
+    took .all,
+    ask .room,
+    count-same (λ m. getD need m false) (wanted first (tallies a b c d)) largestNet
+        (λ m i. needed m (omega arith)),
+  )
 
   pub lanes-distinct : Distinct spare (nets (λ m. getD left m false))
   lanes-distinct = record {
-    few = omega (arith, count-le (λ m. getD left m false) topNet);
+    few = omega (arith, count-le (λ m. getD left m false) largestNet);
     inside = λ p l. omega (arith, took .vacant p (omega (arith, enough)) .0, ask .most);
     apart = λ p q l k. took .apart p q l (omega (arith, enough));
   }
 
-  module _ (list lanes : List ℕ) (listed : Listed left list (nets (λ m. getD left m false))) (spread : Spread placed spare list (nets (λ m. getD left m false)) lanes) where
+  module _ (list lanes : List ℕ) (listed : Listed left list (nets (λ m. getD left m false)))
+      (spread : Spread placed spare list (nets (λ m. getD left m false)) lanes) where
     -- what a lane holds came from the list, or was placed in the first pass
-    source : (i : ℕ) → ((p : ℕ) × (p < nets (λ m. getD left m false)) × (getD spare p 0 ≡ i) × (getD lanes i 0 ≡ getD list p 0)) ⊎ (getD lanes i 0 ≡ getD placed i 0)
+    source : (i : ℕ) → ((p : ℕ) × (p < nets (λ m. getD left m false)) × (getD spare p 0 ≡ i) × (getD lanes i 0 ≡ getD list p 0)) ⊎
+        (getD lanes i 0 ≡ getD placed i 0)
     source i = ⊎-map
         (λ r. (r .0, r .1, r .2, ap (λ (x : ℕ). getD lanes x 0) (sym (r .2)) ∙ spread .put (r .0) (r .1)))
         (λ f. spread .kept i f)
         (find spare (nets (λ m. getD left m false)) i)
 
     -- a net has a lane, at one of its own places if it has one
-    has : (m : ℕ) → In m topNet → getD need m false ≡ true
+    has : (m : ℕ) → In m largestNet → getD need m false ≡ true
         → (i : ℕ) × (i < top) × (getD lanes i 0 ≡ m) × ((j : ℕ) → j < length own → getD own j 0 ≡ m → (i < length own) × (getD own i 0 ≡ m))
     has m l t = split (getD left m false) listed-one placed-one
       where
@@ -263,10 +276,15 @@ module _ (first : Bool) (a b c d own : List ℕ) (top : ℕ) (ask : Asked a b c 
         listed-one w =
             let p = count (λ k. getD left k false) m - 1 in
             let one : 1 ≤ count (λ k. getD left k false) m = omega (arith, sum-part (λ k. bit (getD left k false)) m m (omega arith), ap bit w) in
-            let b : p < nets (λ m. getD left m false) = omega (arith, sum-grows (λ k. bit (getD left k false)) m topNet (l .1)) in
+            let b : p < nets (λ m. getD left m false) = omega (arith, sum-grows (λ k. bit (getD left k false)) m largestNet (l .1)) in
             let r = listed .is p b in
-            let e : getD list p 0 ≡ m = rank-same left (getD list p 0) m (r .1) w (omega (arith, r .2)) in
-            (getD spare p 0, took .vacant p (omega (arith, enough)) .0, spread .put p b ∙ e, λ j k f. absurd (took .waits m w .1 j (omega (arith, ask .beside)) f))
+            let e : getD list p 0 ≡ m = rank-same left (getD list p 0) m (r .1) w (omega (arith, r .2)) in (
+              getD spare p 0,
+              took .vacant p (omega (arith, enough)) .0,
+              spread .put p b ∙ e,
+              λ j k f. absurd
+                  (took .waits m w .1 j (omega (arith, ask .beside)) f),
+            )
 
         placed-one : getD left m false ≡ false
             → (i : ℕ) × (i < top) × (getD lanes i 0 ≡ m) × ((j : ℕ) → j < length own → getD own j 0 ≡ m → (i < length own) × (getD own i 0 ≡ m))
@@ -278,7 +296,7 @@ module _ (first : Bool) (a b c d own : List ℕ) (top : ℕ) (ask : Asked a b c 
             = spread .kept i (λ p b f. z (ap (λ (x : ℕ). getD placed x 0) (sym f) ∙ took .vacant p (omega (arith, enough)) .1)) in
             (i, r .0, kept ∙ e, λ j k f. (within own i (λ y. z (sym (r .1) ∙ y)), r .1 ∙ e))
 
-    only-needed : (i : ℕ) → getD lanes i 0 ≢ 0 → In (getD lanes i 0) topNet × (getD need (getD lanes i 0) false ≡ true)
+    only-needed : (i : ℕ) → getD lanes i 0 ≢ 0 → In (getD lanes i 0) largestNet × (getD need (getD lanes i 0) false ≡ true)
     only-needed i z = ⊎-elim
         (λ s. let (p, l, q, e) = s in let r = listed .is p l in rw e (r .0, took .waits _ (r .1) .0))
         (λ e. let r = took .mine i (λ f. z (e ∙ f)) in rw e (omega (arith, r .1, small-net own i (ask .side), z, e), r .2))
@@ -311,6 +329,7 @@ module _ (first : Bool) (a b c d own : List ℕ) (top : ℕ) (ask : Asked a b c 
           (suc (r .0), omega (arith, o .0), r .2, o .1));
       only = λ i l z. (let e = entry-at lanes i (l .0) in let o = only-needed (i - 1) (λ f. z (e ∙ f)) in
           rw e (o .0, sym (needed _ (omega (arith, o .0))) ∙ o .1));
-      once = λ i j l k z e. (let r = no-two (i - 1) (j - 1) (λ f. z (entry-at lanes i (l .0) ∙ f)) (sym (entry-at lanes i (l .0)) ∙ e ∙ entry-at lanes j (k .0)) in
+      once = λ i j l k z e. (let r = no-two (i - 1) (j - 1) (λ f. z (entry-at lanes i (l .0) ∙ f)) (sym (entry-at lanes i (l .0)) ∙ e ∙ entry-at lanes j
+          (k .0)) in
           omega arith);
     }

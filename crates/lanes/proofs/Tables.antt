@@ -39,7 +39,8 @@ halved-swap h = record { is = λ m l. omega (arith, h .is m l) }
 pub halved-le : (xs : List ℕ) (n : ℕ) (c d : List ℕ) (v : ℕ) → v < 181 → Halved xs n c d → getD c v 0 ≤ n
 halved-le xs n c d v l h = omega (arith, h .is v l, count-le (λ a. eqb (entry xs a) v) n)
 
-pub halved-more : (xs c d : List ℕ) (n v : ℕ) → v ≡ getD xs n 0 → v < 181 → length c ≡ 181 → Halved xs n c d → Halved xs (n + 1) (set c v (getD c v 0 + 1)) d
+pub halved-more : (xs c d : List ℕ) (n v : ℕ) → v ≡ getD xs n 0 → v < 181 → length c ≡ 181 → Halved xs n c d → Halved xs (n + 1)
+    (set c v (getD c v 0 + 1)) d
 halved-more xs c d n v e l len h = record { is = λ m b. go m b (ℕ-discrete m v) }
   where
     more : (m : ℕ) → count (λ a. eqb (entry xs a) m) (n + 1) ≡ count (λ a. eqb (entry xs a) m) n + bit (eqb (getD xs n 0) m)
@@ -58,7 +59,8 @@ halved-more xs c d n v e l len h = record { is = λ m b. go m b (ℕ-discrete m 
 abbrev pub Summed : List ℕ → List ℕ → List ℕ → ℕ → Type 0
 Summed c d counts k = (m : ℕ) → m < k → getD counts m 0 ≡ getD c m 0 + getD d m 0
 
-pub summed-more : (c d counts : List ℕ) (k : ℕ) → length counts ≡ 181 → k < 181 → Summed c d counts k → Summed c d (set counts k (getD c k 0 + getD d k 0)) (k + 1)
+pub summed-more : (c d counts : List ℕ) (k : ℕ) → length counts ≡ 181 → k < 181 → Summed c d counts k → Summed c d
+    (set counts k (getD c k 0 + getD d k 0)) (k + 1)
 summed-more c d counts k len l old m b = by-cases (ℕ-discrete m k)
     (λ f. rw f (getD-set-same counts k (getD c k 0 + getD d k 0) 0 (omega arith)))
     (λ f. getD-set-other counts k m (getD c k 0 + getD d k 0) 0 f ∙ old m (omega (arith, f)))

@@ -10,7 +10,7 @@ use native.Mathlib.Decide.{ℕ-discrete}
 use lib.Dec.{leb, eqb}
 use lib.ListN.{length, getD, set}
 use lib.Seq.{getD-set-same, getD-set-other}
-use Rattle.grid.specs.Grid.{north, south, west, east}
+use Rattle.terms.specs.Kinds.{north, south, west, east}
 use Rattle.switchbox_law.specs.Rules.{Tally, corner, alternate, gets, pair, wanted}
 
 -- the entries of the nets before k are right
@@ -37,7 +37,8 @@ pub turn-none : (first : Bool) (z : ℕ → Bool) → first ≡ alternate first 
 unfolding alternate
 turn-none first z = refl
 
-pub turn-more : (first : Bool) (z : ℕ → Bool) (k : ℕ) (p mine : Bool) → p ≡ z (k + 1) → mine ≡ alternate first z k → cond p (not mine) mine ≡ alternate first z (k + 1)
+pub turn-more : (first : Bool) (z : ℕ → Bool) (k : ℕ) (p mine : Bool) → p ≡ z (k + 1) → mine ≡ alternate first z k → cond p
+    (not mine) mine ≡ alternate first z (k + 1)
 unfolding alternate
 turn-more first z k p mine e f = rw (e, f, add-one)
 

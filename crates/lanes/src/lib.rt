@@ -1,42 +1,34 @@
 // Which nets of a box get a track or a column, and which one each gets: its lane. The rules are those of switchbox_law.
 // Every function here is for our own crates.
+use terms::LARGEST_NET;
+use terms::LONGEST_SIDE;
+use terms::NET_ENTRIES;
+use terms::both;
+use terms::either;
+use terms::wide;
+ghost use Rattle.terms.specs.Limits.{largestNet, netEntries, byteValues};
 ghost use mathlib.Core.Path.{_≡_};
 ghost use mathlib.Core.Bool.{false, not, cond, _&&_, _||_};
-ghost use Prim.Native.Nat.{ℕ, _+_, _<_, _≤_};
+ghost use Prim.Native.Nat.{ℕ, _+_, _-_, _<_, _≤_};
 ghost use lib.Dec.{ltb, eqb};
 ghost use lib.ListN.{length, getD};
 ghost use Rattle.counting.specs.Counting.{bit};
 ghost use Rattle.grid.specs.Legal.{entry, nets};
 ghost use Rattle.switchbox_law.specs.Rules.{four, gets, pair, alternate, wanted};
 ghost use Rattle.switchbox_law.specs.Drawing.{Lanes};
-ghost use Rattle.lanes.specs.Tables.{Nets, Counted, Halved, tallies, Asked};
+ghost use Rattle.lanes.specs.Tables.{Nets, Counted, Halved, tallies, Asked, mostLanes};
 ghost use Rattle.lanes.specs.Placing.{Took, Listed, Distinct, Spread};
 
-fn both(a: bool, b: bool) -> bool
-    ensures { λ r. ⌜ r ≡ (a && b) ⌝ }
-{
-    if a { b } else { false }
-}
-
-fn either(a: bool, b: bool) -> bool
-    ensures { λ r. ⌜ r ≡ (a || b) ⌝ }
-{
-    if a { true } else { b }
-}
-
-fn wide(x: u8) -> usize
-    ensures { λ r. ⌜ r ≡ x ⌝ }
-{
-    x as usize
-}
+// No box has more lanes: the track layers have fewer tracks together than its two sides have places.
+pub const MOST_LANES: usize = 2 * LONGEST_SIDE;
 
 // How many pins each net has on a side, in two parts: at every second place, and in `odd` at the others. A count waits for its
 // last store, and most often two places that follow each other are empty; so these are counted apart.
-fn count_pairs(side: &[u8], odd: &mut [u8; 181]) -> [u8; 181]
-    requires { ⌜ Nets (now side) × (length (now odd) ≡ 181) × ((m : ℕ) → m < 181 → getD (now odd) m 0 ≡ 0) ⌝ }
+fn count_pairs(side: &[u8], odd: &mut [u8; NET_ENTRIES]) -> [u8; NET_ENTRIES]
+    requires { ⌜ Nets (now side) × (length (now odd) ≡ netEntries) × ((m : ℕ) → m < netEntries → getD (now odd) m 0 ≡ 0) ⌝ }
     ensures { λ r. ⌜ Halved (now (side .entry)) (length (now (side .entry))) r (now (odd .exit)) ⌝ }
 {
-    let mut even: [u8; 181] = [0; 181];
+    let mut even: [u8; NET_ENTRIES] = [0; NET_ENTRIES];
     let mut i: usize = 0;
     while i + 1 < side.len() {
         let a = wide(side[i]);
@@ -54,15 +46,15 @@ fn count_pairs(side: &[u8], odd: &mut [u8; 181]) -> [u8; 181]
 }
 
 // How many pins each net has on a side; entry 0 counts the empty places.
-pub fn count_side(side: &[u8]) -> [u8; 181]
+pub fn count_side(side: &[u8]) -> [u8; NET_ENTRIES]
     requires { ⌜ Nets (now side) ⌝ }
     ensures { λ r. ⌜ Counted (now (side .entry)) (length (now (side .entry))) r ⌝ }
 {
-    let mut odd: [u8; 181] = [0; 181];
+    let mut odd: [u8; NET_ENTRIES] = [0; NET_ENTRIES];
     let even = count_pairs(side, &mut odd);
-    let mut counts: [u8; 181] = [0; 181];
+    let mut counts: [u8; NET_ENTRIES] = [0; NET_ENTRIES];
     let mut k: usize = 0;
-    while k < 181 {
+    while k < NET_ENTRIES {
         counts[k] = even[k] + odd[k];
         k += 1;
     }
@@ -85,7 +77,7 @@ fn is_pair(n: u8, s: u8, w: u8, e: u8) -> bool
 
 // Whether a net with these pins gets a track; `mine`: it does if it is a pair.
 fn gets_track(n: u8, s: u8, w: u8, e: u8, mine: bool) -> bool
-    requires { ⌜ n + s ≤ 255 ⌝ }
+    requires { ⌜ n + s ≤ byteValues - 1 ⌝ }
     ensures { λ r. ⌜ r ≡ gets (four n s w e) mine ⌝ }
 {
     let two = both(2 <= n + s, !is_corner(n, e, s, w));
@@ -102,12 +94,18 @@ fn next_turn(takes: bool, mine: bool) -> bool
 
 // Entry m says whether net m is a pair; a to d are the counts of north, south, west and east. Here and in who_alone no net
 // waits for another, so that the compiler treats many at a time.
-fn who_pairs(a: &[u8; 181], b: &[u8; 181], c: &[u8; 181], d: &[u8; 181]) -> [bool; 181]
-    ensures { λ r. ⌜ ((m : ℕ) → m < 181 → getD r m false ≡ pair (tallies (now (a .entry)) (now (b .entry)) (now (c .entry)) (now (d .entry)) m)) ⌝ }
+fn who_pairs(
+    a: &[u8; NET_ENTRIES],
+    b: &[u8; NET_ENTRIES],
+    c: &[u8; NET_ENTRIES],
+    d: &[u8; NET_ENTRIES],
+) -> [bool; NET_ENTRIES]
+    ensures { λ r. ⌜ ((m : ℕ) → m < netEntries → getD r m false ≡ pair
+        (tallies (now (a .entry)) (now (b .entry)) (now (c .entry)) (now (d .entry)) m)) ⌝ }
 {
-    let mut out: [bool; 181] = [false; 181];
+    let mut out: [bool; NET_ENTRIES] = [false; NET_ENTRIES];
     let mut k: usize = 0;
-    while k < 181 {
+    while k < NET_ENTRIES {
         out[k] = is_pair(a[k], b[k], c[k], d[k]);
         k += 1;
     }
@@ -115,13 +113,19 @@ fn who_pairs(a: &[u8; 181], b: &[u8; 181], c: &[u8; 181], d: &[u8; 181]) -> [boo
 }
 
 // Entry m says whether net m gets a track even where it has no turn.
-fn who_alone(a: &[u8; 181], b: &[u8; 181], c: &[u8; 181], d: &[u8; 181]) -> [bool; 181]
-    requires { ⌜ ((m : ℕ) → m < 181 → getD (now a) m 0 + getD (now b) m 0 ≤ 255) ⌝ }
-    ensures { λ r. ⌜ ((m : ℕ) → m < 181 → getD r m false ≡ gets (tallies (now (a .entry)) (now (b .entry)) (now (c .entry)) (now (d .entry)) m) false) ⌝ }
+fn who_alone(
+    a: &[u8; NET_ENTRIES],
+    b: &[u8; NET_ENTRIES],
+    c: &[u8; NET_ENTRIES],
+    d: &[u8; NET_ENTRIES],
+) -> [bool; NET_ENTRIES]
+    requires { ⌜ ((m : ℕ) → m < netEntries → getD (now a) m 0 + getD (now b) m 0 ≤ byteValues - 1) ⌝ }
+    ensures { λ r. ⌜ ((m : ℕ) → m < netEntries → getD r m false ≡ gets
+        (tallies (now (a .entry)) (now (b .entry)) (now (c .entry)) (now (d .entry)) m) false) ⌝ }
 {
-    let mut out: [bool; 181] = [false; 181];
+    let mut out: [bool; NET_ENTRIES] = [false; NET_ENTRIES];
     let mut k: usize = 0;
-    while k < 181 {
+    while k < NET_ENTRIES {
         out[k] = gets_track(a[k], b[k], c[k], d[k], false);
         k += 1;
     }
@@ -130,13 +134,13 @@ fn who_alone(a: &[u8; 181], b: &[u8; 181], c: &[u8; 181], d: &[u8; 181]) -> [boo
 
 // Entry m says whether it is net m's turn, if the first pair has it where `first`; entry 0 says nothing. Each net waits for the
 // one before it, so nothing else is done here.
-fn turns(pairs: &[bool; 181], first: bool) -> [bool; 181]
-    ensures { λ r. ⌜ ((m : ℕ) → m < 180 → getD r (m + 1) false ≡ alternate first (λ k. getD (now (pairs .entry)) k false) m) ⌝ }
+fn turns(pairs: &[bool; NET_ENTRIES], first: bool) -> [bool; NET_ENTRIES]
+    ensures { λ r. ⌜ ((m : ℕ) → m < largestNet → getD r (m + 1) false ≡ alternate first (λ k. getD (now (pairs .entry)) k false) m) ⌝ }
 {
-    let mut out: [bool; 181] = [false; 181];
+    let mut out: [bool; NET_ENTRIES] = [false; NET_ENTRIES];
     let mut mine = first;
     let mut k: usize = 0;
-    while k < 180 {
+    while k < LARGEST_NET {
         k += 1;
         out[k] = mine;
         mine = next_turn(pairs[k], mine);
@@ -145,12 +149,17 @@ fn turns(pairs: &[bool; 181], first: bool) -> [bool; 181]
 }
 
 // Entry m says whether net m gets a track alone, or is a pair whose turn it is.
-fn alone_or_turn(alone: &[bool; 181], pairs: &[bool; 181], turn: &[bool; 181]) -> [bool; 181]
-    ensures { λ r. ⌜ ((m : ℕ) → m < 181 → getD r m false ≡ (getD (now (alone .entry)) m false || (getD (now (pairs .entry)) m false && getD (now (turn .entry)) m false))) ⌝ }
+fn alone_or_turn(
+    alone: &[bool; NET_ENTRIES],
+    pairs: &[bool; NET_ENTRIES],
+    turn: &[bool; NET_ENTRIES],
+) -> [bool; NET_ENTRIES]
+    ensures { λ r. ⌜ ((m : ℕ) → m < netEntries → getD r m false ≡
+        (getD (now (alone .entry)) m false || (getD (now (pairs .entry)) m false && getD (now (turn .entry)) m false))) ⌝ }
 {
-    let mut out: [bool; 181] = [false; 181];
+    let mut out: [bool; NET_ENTRIES] = [false; NET_ENTRIES];
     let mut k: usize = 0;
-    while k < 181 {
+    while k < NET_ENTRIES {
         out[k] = either(alone[k], both(pairs[k], turn[k]));
         k += 1;
     }
@@ -158,9 +167,16 @@ fn alone_or_turn(alone: &[bool; 181], pairs: &[bool; 181], turn: &[bool; 181]) -
 }
 
 // Entry m says whether net m gets a track; 0 is no net.
-fn who_needs(a: &[u8; 181], b: &[u8; 181], c: &[u8; 181], d: &[u8; 181], first: bool) -> [bool; 181]
-    requires { ⌜ ((m : ℕ) → m < 181 → getD (now a) m 0 + getD (now b) m 0 ≤ 255) ⌝ }
-    ensures { λ r. ⌜ ((m : ℕ) → m < 181 → getD r m false ≡ wanted first (tallies (now (a .entry)) (now (b .entry)) (now (c .entry)) (now (d .entry))) m) ⌝ }
+fn who_needs(
+    a: &[u8; NET_ENTRIES],
+    b: &[u8; NET_ENTRIES],
+    c: &[u8; NET_ENTRIES],
+    d: &[u8; NET_ENTRIES],
+    first: bool,
+) -> [bool; NET_ENTRIES]
+    requires { ⌜ ((m : ℕ) → m < netEntries → getD (now a) m 0 + getD (now b) m 0 ≤ byteValues - 1) ⌝ }
+    ensures { λ r. ⌜ ((m : ℕ) → m < netEntries → getD r m false ≡ wanted first
+        (tallies (now (a .entry)) (now (b .entry)) (now (c .entry)) (now (d .entry))) m) ⌝ }
 {
     let alone = who_alone(a, b, c, d);
     let pairs = who_pairs(a, b, c, d);
@@ -182,7 +198,7 @@ fn net_at(side: &[u8], i: usize) -> usize
 
 // The net m if it takes the lane, else 0.
 fn if_taken(taken: bool, m: usize) -> u8
-    requires { ⌜ m ≤ 180 ⌝ }
+    requires { ⌜ m ≤ largestNet ⌝ }
     ensures { λ r. ⌜ r ≡ cond taken m 0 ⌝ }
 {
     if taken { m as u8 } else { 0 }
@@ -202,11 +218,17 @@ fn one_unless(b: bool) -> usize
 
 // The first pass: each net that needs a lane and has a place on the side takes the lane beside its first one. `left` are the
 // nets that still need a lane, and `spare` lists the lanes that no net took, in order. No branch depends on the nets.
-fn take_own(own: &[u8], top: usize, left: &mut [bool; 181], spare: &mut [u8; 181]) -> [u8; 180]
-    requires { ⌜ (top ≤ 180) × Nets (now own) × (getD (now left) 0 false ≡ false) × (length (now left) ≡ 181) × (length (now spare) ≡ 181) ⌝ }
+fn take_own(
+    own: &[u8],
+    top: usize,
+    left: &mut [bool; NET_ENTRIES],
+    spare: &mut [u8; NET_ENTRIES],
+) -> [u8; MOST_LANES]
+    requires { ⌜ (top ≤ mostLanes) × Nets (now own) × (getD (now left) 0 false ≡ false) × (length (now left) ≡ netEntries) ×
+        (length (now spare) ≡ netEntries) ⌝ }
     ensures { λ r. ⌜ ((n : ℕ) × Took (now (own .entry)) (now (left .entry)) (now (left .exit)) (now (spare .exit)) r n top) ⌝ }
 {
-    let mut lanes: [u8; 180] = [0; 180];
+    let mut lanes: [u8; MOST_LANES] = [0; MOST_LANES];
     let mut count: usize = 0;
     let mut i: usize = 0;
     while i < top {
@@ -222,13 +244,13 @@ fn take_own(own: &[u8], top: usize, left: &mut [bool; 181], spare: &mut [u8; 181
 }
 
 // The nets that are left, in order. Each is written, and written over if it is not left: no branch depends on the nets.
-fn list_left(left: &[bool; 181]) -> [u8; 181]
+fn list_left(left: &[bool; NET_ENTRIES]) -> [u8; NET_ENTRIES]
     ensures { λ r. ⌜ Listed (now (left .entry)) r (nets (λ m. getD (now (left .entry)) m false)) ⌝ }
 {
-    let mut list: [u8; 181] = [0; 181];
+    let mut list: [u8; NET_ENTRIES] = [0; NET_ENTRIES];
     let mut count: usize = 0;
     let mut k: usize = 0;
-    while k < 180 {
+    while k < LARGEST_NET {
         k += 1;
         list[count] = k as u8;
         count += wide(one_if(left[k]));
@@ -236,12 +258,12 @@ fn list_left(left: &[bool; 181]) -> [u8; 181]
     list
 }
 
-fn count_left(left: &[bool; 181]) -> usize
+fn count_left(left: &[bool; NET_ENTRIES]) -> usize
     ensures { λ r. ⌜ r ≡ nets (λ m. getD (now (left .entry)) m false) ⌝ }
 {
     let mut count: u8 = 0;
     let mut k: usize = 0;
-    while k < 180 {
+    while k < LARGEST_NET {
         k += 1;
         count += one_if(left[k]);
     }
@@ -249,7 +271,12 @@ fn count_left(left: &[bool; 181]) -> usize
 }
 
 // The second pass: the first `count` of the list take the first spare lanes.
-fn fill_spare(placed: [u8; 180], spare: &[u8; 181], list: &[u8; 181], count: usize) -> [u8; 180]
+fn fill_spare(
+    placed: [u8; MOST_LANES],
+    spare: &[u8; NET_ENTRIES],
+    list: &[u8; NET_ENTRIES],
+    count: usize,
+) -> [u8; MOST_LANES]
     requires { ⌜ Distinct (now spare) count ⌝ }
     ensures { λ r. ⌜ Spread placed (now (spare .entry)) (now (list .entry)) count r ⌝ }
 {
@@ -266,19 +293,20 @@ fn fill_spare(placed: [u8; 180], spare: &[u8; 181], list: &[u8; 181], count: usi
 // The tracks of a box, lanes 1 to top, from the counts of north, south, west and east and from the west side. (With the
 // counts of east, west, south and north and with the south side: its columns.)
 pub fn lanes(
-    a: &[u8; 181],
-    b: &[u8; 181],
-    c: &[u8; 181],
-    d: &[u8; 181],
+    a: &[u8; NET_ENTRIES],
+    b: &[u8; NET_ENTRIES],
+    c: &[u8; NET_ENTRIES],
+    d: &[u8; NET_ENTRIES],
     own: &[u8],
     top: usize,
     first: bool,
-) -> [u8; 180]
+) -> [u8; MOST_LANES]
     requires { ⌜ Asked (now a) (now b) (now c) (now d) (now own) top first ⌝ }
-    ensures { λ r. ⌜ Lanes (wanted first (tallies (now (a .entry)) (now (b .entry)) (now (c .entry)) (now (d .entry)))) (entry (now (own .entry))) (length (now (own .entry))) top (entry r) ⌝ }
+    ensures { λ r. ⌜ Lanes (wanted first (tallies (now (a .entry)) (now (b .entry)) (now (c .entry)) (now (d .entry))))
+        (entry (now (own .entry))) (length (now (own .entry))) top (entry r) ⌝ }
 {
     let mut left = who_needs(a, b, c, d, first);
-    let mut spare: [u8; 181] = [0; 181];
+    let mut spare: [u8; NET_ENTRIES] = [0; NET_ENTRIES];
     let placed = take_own(own, top, &mut left, &mut spare);
     let list = list_left(&left);
     let count = count_left(&left);

@@ -1,27 +1,24 @@
-// Lays stored tickets: a record is a length of two bytes, low first, so many bytes of a ticket, and three bytes, low first, for the
-// length of the buffer. A line is Lay's answer, then Check's number and place of the wiring, and 1 where the bytes outside it were kept.
-use checker::CheckAnswer;
+// Lays stored tickets: after its ticket a record has the length of the buffer, of three bytes. A line is Lay's answer, then Check's number
+// and place of the wiring, and 1 where the bytes outside it were kept.
 use libc::STDIN_FILENO;
-use libc::STDOUT_FILENO;
+use records::field;
+use records::refusal_fields;
 use router::LayAnswer;
-ghost use Prim.Native.Nat.{_<_, _≤_};
+use terms::Refusal;
+use terms::wide;
+ghost use Prim.Native.Nat.{_≤_};
 ghost use lib.ListN.{length};
 
+// The bytes of a record after its ticket.
+const FIELDS: usize = 3;
+
+const LONGEST_BUFFER: usize = 65536;
+
+// What the buffer holds before a ticket is laid.
 const STAIN: u8 = 170;
 
-fn field(x: u64) {
-    io::print_decimal(STDOUT_FILENO, x);
-    io::write_all(STDOUT_FILENO, b" ");
-}
-
-fn flag(x: bool) -> u64 {
+fn flag(x: bool) -> usize {
     if x { 1 } else { 0 }
-}
-
-fn wide(x: u8) -> usize
-    ensures { λ r. ⌜ r < 256 ⌝ }
-{
-    x as usize
 }
 
 fn stain(buffer: &mut [u8]) {
@@ -43,17 +40,16 @@ fn is_kept(buffer: &[u8], from: usize) -> bool {
 }
 
 fn show_answer(a: LayAnswer) {
-    field(a.number as u64);
-    field(a.place as u64);
-    field(a.kind as u64);
-    field(a.n.0 as u64);
-    field(a.w.0 as u64);
-    field(a.k.0 as u64);
+    refusal_fields(a.refusal);
+    field(wide(a.kind));
+    field(grid::column_count(a.n));
+    field(grid::track_count(a.w));
+    field(grid::layer_count(a.k));
     field(flag(a.first));
-    field(a.nets as u64);
-    field(a.across as u64);
-    field(a.up as u64);
-    field(a.floor.0 as u64);
+    field(wide(a.nets));
+    field(a.across);
+    field(a.up);
+    field(grid::layer_count(a.floor));
 }
 
 // How many bytes of the buffer the wiring takes: none after a refusal.
@@ -74,32 +70,14 @@ fn taken(a: LayAnswer, most: usize) -> usize
 }
 
 // Check's answer to the wiring; 0 and 0 after a refusal.
-fn verdict(
-    ticket: &[u8],
-    a: LayAnswer,
-    wiring: &[u8],
-    size: usize,
-    scratch: &mut [u8],
-) -> CheckAnswer
+fn verdict(ticket: &[u8], a: LayAnswer, wiring: &[u8], size: usize, scratch: &mut [u8]) -> Refusal
     requires { ⌜ size ≤ length (now wiring) ⌝ }
 {
-    let w = a.w;
-    let k = a.k;
-    let first = a.first;
-    if a.number != 0 {
-        return CheckAnswer {
-            number: 0,
-            place: 0,
-        };
+    let refusal = a.refusal;
+    if refusal.number != 0 {
+        return terms::refuse(0, 0);
     }
-    checker::check(ticket, w, k, first, &wiring[..size], scratch)
-}
-
-fn show_verdict(c: CheckAnswer, kept: bool) {
-    field(c.number as u64);
-    field(c.place as u64);
-    io::print_decimal(STDOUT_FILENO, flag(kept));
-    io::write_all(STDOUT_FILENO, b"\n");
+    checker::check(ticket, a.w, a.k, a.first, &wiring[..size], scratch)
 }
 
 fn show(ticket: &[u8], wiring: &mut [u8], scratch: &mut [u8]) {
@@ -107,36 +85,44 @@ fn show(ticket: &[u8], wiring: &mut [u8], scratch: &mut [u8]) {
     let a = router::lay(ticket, wiring);
     let size = taken(a, wiring.len());
     show_answer(a);
-    show_verdict(
-        verdict(ticket, a, wiring, size, scratch),
-        is_kept(wiring, size),
-    );
+    refusal_fields(verdict(ticket, a, wiring, size, scratch));
+    records::last_field(flag(is_kept(wiring, size)));
+}
+
+// Shows the record that starts at `at`, and answers where it ends: at `at` itself where it is not whole.
+fn one(s: &[u8], at: usize, wiring: &mut [u8], scratch: &mut [u8]) -> usize
+    requires { ⌜ at ≤ length (now s) ⌝ }
+    ensures { λ r. ⌜ r ≤ length (now (s .entry)) ⌝ }
+{
+    let r = records::record_at(s, at, FIELDS);
+    let from = r.from;
+    let end = r.end;
+    if end <= at {
+        return at;
+    }
+    let size = records::triple(s, end);
+    if wiring.len() < size {
+        return at;
+    }
+    show(&s[from..end], &mut wiring[..size], scratch);
+    end + FIELDS
 }
 
 fn all(s: &[u8], wiring: &mut [u8], scratch: &mut [u8]) {
     let mut at = 0;
     loop {
-        let end = records::record_end(s, at);
-        if end < at + 2 {
+        let next = one(s, at, wiring, scratch);
+        if next <= at {
             return;
         }
-        if s.len() - end < 3 {
-            return;
-        }
-        let from = at + 2;
-        let size = wide(s[end]) + 256 * (wide(s[end + 1]) + 256 * wide(s[end + 2]));
-        if wiring.len() < size {
-            return;
-        }
-        show(&s[from..end], &mut wiring[..size], scratch);
-        at = end + 3;
+        at = next;
     }
 }
 
 fn main() {
     let mut input = io::large_buffer();
-    let mut wiring = [0u8; 65536];
-    let mut scratch = [0u8; 65536];
+    let mut wiring = [0u8; LONGEST_BUFFER];
+    let mut scratch = [0u8; LONGEST_BUFFER];
     let n = io::read_full(STDIN_FILENO, &mut input);
     all(&input[..n], &mut wiring, &mut scratch);
 }

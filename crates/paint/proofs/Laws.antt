@@ -1,11 +1,12 @@
 -- Laws of painting: byte by byte, in the middle of a buffer, row by row, eight rows at a time, and layer by layer.
 use Prim.Native.Nat.{ℕ, zero, suc, _+_, _*_, _-_, _/_, _%_, _≤_, _<_}
 use mathlib.Core.Path.{_≡_, refl, sym, ap, ap₂, subst, _∙_}
-use mathlib.Core.Logic.{inl, inr, ⊎-elim, by-cases}
+use mathlib.Core.Logic.{_⊎_, inl, inr, ⊎-elim, by-cases}
 use mathlib.Core.List.{List}
 use native.Mathlib.Omega.{arith}
 use native.Mathlib.Decide.{ℕ-discrete, decLt}
-use native.Mathlib.Nat.{zero-mul, add-sub-cancel-left, mul-one, suc-mul, mul-add, add-mul, mul-assoc, mul-comm, mul-left-comm, mul-le-mul-right, lt-of-mul-lt-mul-right}
+use native.Mathlib.Nat.{zero-mul, add-sub-cancel-left, mul-one, suc-mul, mul-add, add-mul, mul-assoc, mul-comm, mul-left-comm, mul-le-mul-right}
+use native.Mathlib.Nat.{lt-of-mul-lt-mul-right}
 use native.Mathlib.Numerals.{add-one}
 use mathlib.Core.List.{_++_}
 use lib.ListN.{length, getD, set, take, drop, length-set, length-take, length-drop, length-append, List·getD-append}
@@ -13,8 +14,9 @@ use lib.Seq.{getD-set-same, getD-set-other, getD-append-add, getD-take, getD-dro
 use borrow.Rule.Slice.PartMut.{midOf, postOf, putMid, same-len-mid, take-put, drop-put}
 use Rattle.grid.specs.Grid.{Grid, point, Inside}
 use Rattle.grid.specs.Legal.{Wiring, index, wiringOf}
+use Rattle.terms.specs.Limits.{longestSide}
 use Rattle.grid.proofs.Buffer.{index-is}
-use Rattle.paint.specs.Paint.{Striped, Painted, Starts, Block, Drawn}
+use Rattle.paint.specs.Paint.{Striped, Painted, Block, Drawn}
 
 -- ---- byte by byte: the first i bytes are f
 
@@ -25,7 +27,8 @@ pub record Upto (before after : List ℕ) (i : ℕ) (f : ℕ → ℕ) : Type 0 w
 pub upto-start : (l : List ℕ) (f : ℕ → ℕ) → Upto l l 0 f
 upto-start l f = record { long = refl; here = λ t h. absurd (omega arith) }
 
-pub upto-next : {before after : List ℕ} {i : ℕ} {f : ℕ → ℕ} (v : ℕ) → i < length before → v ≡ f i → Upto before after i f → Upto before (set after i v) (i + 1) f
+pub upto-next : {before after : List ℕ} {i : ℕ} {f : ℕ → ℕ} (v : ℕ) → i < length before → v ≡ f i → Upto before after i f
+    → Upto before (set after i v) (i + 1) f
 upto-next {before} {after} {i} {f} v h e u = record {
   long = simp length-set (u .long);
   here = λ t k. by-cases (ℕ-discrete t i)
@@ -33,7 +36,8 @@ upto-next {before} {after} {i} {f} v h e u = record {
       (λ ne. getD-set-other after i t v 0 ne ∙ u .here t (omega (arith, ne)));
 }
 
-pub upto-all : {before after : List ℕ} {n : ℕ} {f : ℕ → ℕ → ℕ} → length before ≤ n → Upto before after n (λ i. f i 0) → Striped before after (length before) 1 f
+pub upto-all : {before after : List ℕ} {n : ℕ} {f : ℕ → ℕ → ℕ} → length before ≤ n → Upto before after n (λ i. f i 0) → Striped before after
+    (length before) 1 f
 upto-all {before} {after} {n} {f} h u = record { long = u .long; here = λ i j hi hj. at i j (omega arith) (omega arith) }
   where
     at : (i j : ℕ) → i < n → j ≡ 0 → getD after (j * length before + i) 0 ≡ f i j
@@ -59,15 +63,41 @@ striped-as {before} {after} {m} {n} {w} {f} size same s = record {
   here = λ i j hi hj. ap (λ (u : ℕ). getD after (j * u + i) 0) (sym size) ∙ s .here i j (omega arith) hj ∙ same i j hi hj;
 }
 
--- the row's first bytes are as many as the values, and rows of them are rows of the values
-pub held-size : {row values : List ℕ} → length values ≤ 90 → Starts row values → length (take (length values) row) ≡ length values
-held-size {row} {values} few r = length-take-le (length values) row (omega (arith, r .long))
+-- ---- an array that holds a row: its first bytes are the values
 
-pub held-rows : {before after row values : List ℕ} {w : ℕ} → length values ≤ 90 → Starts row values
-    → Striped before after (length (take (length values) row)) w (λ i j. getD (take (length values) row) i 0)
-    → Striped before after (length values) w (λ i j. getD values i 0)
-held-rows {before} {after} {row} {values} {w} few r s =
-    striped-as (held-size few r) (λ i j hi hj. getD-take (length values) row i 0 hi ∙ r .here i hi) s
+pub record Holds (row values : List ℕ) : Type 0 where
+  pub long : length row ≡ longestSide
+  pub here : (i : ℕ) → i < length values → getD row i 0 ≡ getD values i 0
+
+module _ (values : List ℕ) (few : length values ≤ longestSide) where
+  pub first-size : (row : List ℕ) → length row ≡ longestSide → length (take (length values) row) ≡ length values
+  first-size row long = length-take-le (length values) row (omega arith)
+
+  -- its first bytes are lent, copied to and handed back
+  pub holds-made : {ys : List ℕ} (blank : List ℕ) → length blank ≡ longestSide
+      → Striped (take (length values) blank) ys (length (take (length values) blank)) 1 (λ i j. getD values i 0)
+      → Holds (ys ++ drop (length values) blank) values
+  holds-made {ys} blank size s = record {
+    long = length-append ys rest ∙ omega (arith, many, length-drop (length values) blank);
+    here = λ i h.
+        List·getD-append ys rest 0 i (omega (arith, many)) ∙ ap (λ (u : ℕ). getD ys u 0) (omega (arith, zero-mul (length (take (length values) blank))))
+        ∙ s .here i 0 (omega (arith, first-size blank size)) (omega arith);
+  }
+    where
+      rest : List ℕ
+      rest = drop (length values) blank
+
+      many : length ys ≡ length values
+      many = s .long ∙ first-size blank size
+
+  pub held-size : {row : List ℕ} → Holds row values → length (take (length values) row) ≡ length values
+  held-size {row} r = first-size row (r .long)
+
+  -- rows of its first bytes are rows of the values
+  pub held-rows : {before after row : List ℕ} {w : ℕ} → Holds row values
+      → Striped before after (length (take (length values) row)) w (λ i j. getD (take (length values) row) i 0)
+      → Striped before after (length values) w (λ i j. getD values i 0)
+  held-rows {row = row} r s = striped-as (held-size r) (λ i j hi hj. getD-take (length values) row i 0 hi ∙ r .here i hi) s
 
 -- row j, and byte i of it, lie within w rows of n
 pub row-in : (n w j : ℕ) → j < w → j * n + n ≤ n * w
@@ -81,8 +111,8 @@ inside n w i j hi hj = omega (arith, row-in n w j hj)
 mid-long : (a k : ℕ) (xs : List ℕ) → a + k ≤ length xs → length (midOf a k xs) ≡ k
 mid-long a k xs fits = length-take-le k (drop a xs) (simp length-drop (omega arith))
 
-pub mid-size : (a n : ℕ) (xs : List ℕ) → a + n ≤ length xs → length (midOf a (a + n - a) xs) ≡ n
-mid-size a n xs fits = mid-long a (a + n - a) xs (omega arith) ∙ add-sub-cancel-left a n
+pub mid-size : {size : ℕ} (from to : ℕ) (xs : List ℕ) → to ≡ from + size → to ≤ length xs → length (midOf from (to - from) xs) ≡ size
+mid-size from to xs e fits = mid-long from (to - from) xs (omega arith) ∙ omega arith
 
 module _ (a k : ℕ) (xs ys : List ℕ) (fits : a + k ≤ length xs) (many : length ys ≡ k) where
   mid-here : (t : ℕ) → t < k → getD (putMid a k xs ys) (a + t) 0 ≡ getD ys t 0
@@ -156,7 +186,8 @@ above-left {n = n} {w = w} h a = lt-of-mul-lt-mul-right n (omega (arith, mul-com
 
 -- row j is the first n of m bytes that are written at its start
 pub above-step : {before now : List ℕ} {n w j from : ℕ} {f g : ℕ → ℕ → ℕ} (m : ℕ) (ys : List ℕ) → n ≤ m → from + m ≤ length before → j < w
-    → ((i : ℕ) → i < n → g i 0 ≡ f i j) → Above before now n w j from f → Striped (midOf from (from + m - from) now) ys (length (midOf from (from + m - from) now)) 1 g
+    → ((i : ℕ) → i < n → g i 0 ≡ f i j) → Above before now n w j from f
+    → Striped (midOf from (from + m - from) now) ys (length (midOf from (from + m - from) now)) 1 g
     → Above before (putMid from (from + m - from) now ys) n w (j + 1) (from + n) f
 above-step {before} {now} {n} {w} {j} {from} {f} {g} m ys wide fits h same a s = record {
   start = next-row from n j (a .start);
@@ -207,16 +238,18 @@ module _ {before now : List ℕ} {n w j from : ℕ} {f : ℕ → ℕ → ℕ} (m
 pub rest-values : (j : ℕ) (values : List ℕ) → j ≤ length values → j + length (midOf j (length values - j) values) ≡ length values
 rest-values j values h = omega (arith, mid-long j (length values - j) values (omega arith))
 
-pub rest-value : (j z : ℕ) (values : List ℕ) → z < length (midOf j (length values - j) values) → getD (midOf j (length values - j) values) z 0 ≡ getD values (j + z) 0
-rest-value j z values h = getD-take (length values - j) (drop j values) z 0 (omega (arith, length-take (length values - j) (drop j values))) ∙ getD-drop j values z 0
+pub rest-value : (j z : ℕ) (values : List ℕ) → z < length (midOf j (length values - j) values)
+    → getD (midOf j (length values - j) values) z 0 ≡ getD values (j + z) 0
+rest-value j z values h =
+    getD-take (length values - j) (drop j values) z 0 (omega (arith, length-take (length values - j) (drop j values))) ∙ getD-drop j values z 0
 
 -- ---- eight rows at a time
 
-pub block-long : (n : ℕ) (block : List ℕ) → n ≤ 90 → length block ≡ 720 → length (take (8 * n) block) ≡ 8 * n
+pub block-long : (n : ℕ) (block : List ℕ) → n ≤ longestSide → length block ≡ 8 * longestSide → length (take (8 * n) block) ≡ 8 * n
 block-long n block few long = length-take-le (8 * n) block (omega arith)
 
 -- an array whose first bytes are lent, striped by row and handed back
-pub block-made : {ys row : List ℕ} (blank : List ℕ) → length row ≤ 90 → length blank ≡ 720
+pub block-made : {ys row : List ℕ} (blank : List ℕ) → length row ≤ longestSide → length blank ≡ 8 * longestSide
     → Striped (take (8 * length row) blank) ys (length row) 8 (λ i j. getD row i 0) → Block (ys ++ drop (8 * length row) blank) row
 block-made {ys} {row} blank few size s = record {
   long = length-append ys rest ∙ omega (arith, many, length-drop (8 * length row) blank);
@@ -235,14 +268,15 @@ blocks-fit n w =
     omega (arith, mul-le-mul-right n h, mul-assoc 8 (w / 8) n, mul-assoc 8 n (w / 8), mul-comm n (w / 8), mul-comm w n)
 
 -- rows of the block's first bytes are rows of row, and w / 8 rows of the block are 8 * (w / 8) rows of row
-module _ {row block : List ℕ} (few : length row ≤ 90) (b : Block block row) where
+module _ {row block : List ℕ} (few : length row ≤ longestSide) (b : Block block row) where
   pub first-long : length (take (length row) block) ≡ length row
   first-long = length-take-le (length row) block (omega (arith, b .long))
 
   pub first-rows : {before after : List ℕ} {w : ℕ} → Striped before after (length (take (length row) block)) w (λ i j. getD (take (length row) block) i 0)
       → Striped before after (length row) w (λ i j. getD row i 0)
   first-rows s = striped-as first-long
-      (λ i j hi hj. getD-take (length row) block i 0 hi ∙ ap (λ (u : ℕ). getD block u 0) (omega (arith, zero-mul (length row))) ∙ b .here i 0 hi (omega arith)) s
+      (λ i j hi hj. getD-take (length row) block i 0 hi ∙ ap (λ (u : ℕ). getD block u 0) (omega (arith, zero-mul (length row)))
+      ∙ b .here i 0 hi (omega arith)) s
 
   pub blocks-long : (w : ℕ) (part : List ℕ) → length part ≡ length row * w
       → length (midOf 0 (8 * length row * (w / 8) - 0) part) ≡ length (take (8 * length row) block) * (w / 8)
@@ -252,7 +286,8 @@ module _ {row block : List ℕ} (few : length row ≤ 90) (b : Block block row) 
       ∙ sym (ap (λ (u : ℕ). u * (w / 8)) (block-long (length row) block few (b .long)))
 
   pub above-blocks : {part ys : List ℕ} {w : ℕ} → length part ≡ length row * w
-      → Striped (midOf 0 (8 * length row * (w / 8) - 0) part) ys (length (take (8 * length row) block)) (w / 8) (λ i j. getD (take (8 * length row) block) i 0)
+      → Striped (midOf 0 (8 * length row * (w / 8) - 0) part) ys (length (take (8 * length row) block)) (w / 8)
+      (λ i j. getD (take (8 * length row) block) i 0)
       → Above part (putMid 0 (8 * length row * (w / 8) - 0) part ys) (length row) w (8 * (w / 8)) (8 * length row * (w / 8)) (λ i j. getD row i 0)
   above-blocks {part} {ys} {w} size s = record {
     start = omega (arith, mul-assoc 8 n (w / 8), mul-assoc 8 (w / 8) n, mul-comm n (w / 8));
@@ -278,11 +313,44 @@ module _ {row block : List ℕ} (few : length row ≤ 90) (b : Block block row) 
       p = put-striped {k = 8 * n * (w / 8) - 0} part ys (omega arith) (omega (arith, blocks-fit n w))
           (striped-as (block-long n block few (b .long)) (λ i j hi hj. getD-take (8 * n) block i 0 hi) s)
 
--- ---- a layer that is lent, striped and handed back
+-- ---- a layer's part, lent from `from` to `to`, striped and handed back
 
-pub put-layer : {from size n w : ℕ} {f : ℕ → ℕ → ℕ} (xs ys : List ℕ) → size ≡ n * w → from + size ≤ length xs → Striped (midOf from (from + size - from) xs) ys n w f
-    → Painted xs (putMid from (from + size - from) xs ys) from n w f
-put-layer {from} {size} xs ys e fits s = put-striped xs ys (add-sub-cancel-left from size ∙ e) (omega arith) s
+put-layer : {from to n w : ℕ} {f : ℕ → ℕ → ℕ} (xs ys : List ℕ) → to ≡ from + n * w → to ≤ length xs
+    → Striped (midOf from (to - from) xs) ys n w f → Painted xs (putMid from (to - from) xs ys) from n w f
+put-layer {from} {to} xs ys e fits s = put-striped {k = to - from} xs ys (omega arith) (omega arith) s
+
+-- in it rows are painted from `at` on, and the rest is as it was
+module _ {from to at n w : ℕ} {f : ℕ → ℕ → ℕ} (xs ys : List ℕ) (in-order : from ≤ to) (fits : to ≤ length xs) (room : at + n * w ≤ to - from)
+    (p : Painted (midOf from (to - from) xs) ys at n w f) where
+  many : length ys ≡ to - from
+  many = p .long ∙ mid-long from (to - from) xs (omega arith)
+
+  byte-of : (t : ℕ) → t < to - from → getD (putMid from (to - from) xs ys) (from + t) 0 ≡ getD ys t 0
+  byte-of = mid-here from (to - from) xs ys (omega arith) many
+
+  elsewhere : (b : ℕ) → (b < from + at) ⊎ (from + at + n * w ≤ b) → getD (putMid from (to - from) xs ys) b 0 ≡ getD xs b 0
+  elsewhere b o = elim (decLt b from) [
+    | yes under ↦ mid-before from (to - from) xs ys (omega arith) many b under
+    | no over ↦ elim (decLt b to) [
+      | yes within ↦
+          let e : from + (b - from) ≡ b = omega arith in
+          subst (λ (u : ℕ). getD (putMid from (to - from) xs ys) u 0 ≡ getD xs u 0) e
+          (byte-of (b - from) (omega arith) ∙ p .others (b - from) (⊎-elim (λ h. inl (omega arith)) (λ h. inr (omega arith)) o)
+          ∙ getD-take (to - from) (drop from xs) (b - from) 0 (omega arith) ∙ getD-drop from xs (b - from) 0)
+      | no past ↦
+          let e : from + (to - from) + (b - to) ≡ b = omega arith in
+          subst (λ (u : ℕ). getD (putMid from (to - from) xs ys) u 0 ≡ getD xs u 0) e (mid-after from (to - from) xs ys (omega arith) many (b - to))
+    ]
+  ]
+
+  pub put-painted : Painted xs (putMid from (to - from) xs ys) (from + at) n w f
+  put-painted = record {
+    long = same-len-mid from (to - from) xs ys (p .long);
+    here = λ i j hi hj.
+        ap (λ (u : ℕ). getD (putMid from (to - from) xs ys) u 0) (omega arith) ∙ byte-of (at + (j * n + i)) (omega (arith, inside n w i j hi hj))
+        ∙ p .here i j hi hj;
+    others = elsewhere;
+  }
 
 -- ---- layer by layer
 
@@ -290,7 +358,7 @@ pub drawn-none : (n w : ℕ) (l : List ℕ) (x : Wiring) → Drawn n w l l 0 x
 drawn-none n w l x = record { long = refl; here = λ i j t hi hj h. absurd (omega arith); others = λ b h. refl }
 
 -- the next layer is painted as x has it
-pub drawn-next : {n w top from : ℕ} {before now after : List ℕ} {f : ℕ → ℕ → ℕ} {x : Wiring} → from ≡ top * (n * w) → Drawn n w before now top x
+drawn-next : {n w top from : ℕ} {before now after : List ℕ} {f : ℕ → ℕ → ℕ} {x : Wiring} → from ≡ top * (n * w) → Drawn n w before now top x
     → Painted now after from n w f → ((i j : ℕ) → i < n → j < w → f i j ≡ x (suc i) (suc j) (suc top)) → Drawn n w before after (suc top) x
 drawn-next {n} {w} {top} {from} {before} {now} {after} {f} {x} start d p same = record {
   long = p .long ∙ d .long;
@@ -301,6 +369,12 @@ drawn-next {n} {w} {top} {from} {before} {now} {after} {f} {x} start d p same = 
   others = λ b h. let e : suc top * (n * w) ≡ top * (n * w) + n * w = suc-mul top (n * w) in p .others b (inr (omega arith)) ∙ d .others b (omega arith);
 }
 
+-- the same where the layer's part is lent, striped and handed back
+pub drawn-part : {n w top from to : ℕ} {before now ys : List ℕ} {f : ℕ → ℕ → ℕ} {x : Wiring} → from ≡ top * (n * w) → to ≡ from + n * w → to ≤ length now
+    → Drawn n w before now top x → Striped (midOf from (to - from) now) ys n w f
+    → ((i j : ℕ) → i < n → j < w → f i j ≡ x (suc i) (suc j) (suc top)) → Drawn n w before (putMid from (to - from) now ys) (suc top) x
+drawn-part {now = now} {ys = ys} start end fits d s same = drawn-next start d (put-layer now ys end fits s) same
+
 -- the drawn layers are the wiring that the buffer holds
 pub drawn-wiring : (g : Grid) {before after : List ℕ} {x : Wiring} → Drawn (g .n) (g .w) before after (g .k) x
     → (i j l : ℕ) → Inside g (point i j l) → wiringOf g after i j l ≡ x i j l
@@ -308,7 +382,8 @@ drawn-wiring g d zero j l h = absurd (omega arith)
 drawn-wiring g d (suc i) zero l h = absurd (omega arith)
 drawn-wiring g d (suc i) (suc j) zero h = absurd (omega arith)
 drawn-wiring g {before} {after} {x} d (suc i) (suc j) (suc l) h =
-    ap (λ (u : ℕ). getD after u 0) (at ∙ ap₂ (λ (a b : ℕ). a * (g .n * g .w) + (b * g .n + i)) level row) ∙ d .here i j l (omega arith) (omega arith) (omega arith)
+    ap (λ (u : ℕ). getD after u 0) (at ∙ ap₂ (λ (a b : ℕ). a * (g .n * g .w) + (b * g .n + i)) level row)
+    ∙ d .here i j l (omega arith) (omega arith) (omega arith)
   where
     level : suc l - 1 ≡ l
     level = omega arith

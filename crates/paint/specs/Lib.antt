@@ -1,2 +1,1 @@
 pub mod Paint
-pub mod Laid

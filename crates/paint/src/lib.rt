@@ -1,12 +1,17 @@
 // A layer's part of the wiring buffer, painted in full lines: by column, by track, or with one value.
 // All functions here are for our own crates.
 ghost use mathlib.Core.Path.{_≡_};
-ghost use Prim.Native.Nat.{_+_, _*_, _≤_};
+ghost use Prim.Native.Nat.{_*_, _≤_};
 ghost use lib.ListN.{length, getD};
-ghost use Rattle.paint.specs.Paint.{Striped, Painted, Starts, Block};
+ghost use Rattle.terms.specs.Limits.{longestSide};
+ghost use Rattle.paint.specs.Paint.{Striped, Block};
+use terms::LONGEST_SIDE;
+
+// The bytes of the longest row, eight times.
+const BLOCK: usize = 8 * LONGEST_SIDE;
 
 // Each byte of the part is v.
-fn fill(part: &mut [u8], v: u8)
+pub fn fill(part: &mut [u8], v: u8)
     ensures { λ _. ⌜ Striped (now (part .entry)) (now (part .exit)) (length (now (part .entry))) 1 (λ i j. v) ⌝ }
 {
     for i in 0..part.len() {
@@ -17,7 +22,8 @@ fn fill(part: &mut [u8], v: u8)
 // The part is a copy of values, which are as many.
 fn copy(part: &mut [u8], values: &[u8])
     requires { ⌜ length (now part) ≡ length (now values) ⌝ }
-    ensures { λ _. ⌜ Striped (now (part .entry)) (now (part .exit)) (length (now (part .entry))) 1 (λ i j. getD (now (values .entry)) i 0) ⌝ }
+    ensures { λ _. ⌜ Striped (now (part .entry)) (now (part .exit)) (length (now (part .entry))) 1
+        (λ i j. getD (now (values .entry)) i 0) ⌝ }
 {
     for i in 0..part.len() {
         part[i] = values[i];
@@ -27,7 +33,8 @@ fn copy(part: &mut [u8], values: &[u8])
 // Of w rows each is a copy of values.
 fn rows(part: &mut [u8], values: &[u8], w: usize)
     requires { ⌜ length (now part) ≡ length (now values) * w ⌝ }
-    ensures { λ _. ⌜ Striped (now (part .entry)) (now (part .exit)) (length (now (values .entry))) w (λ i j. getD (now (values .entry)) i 0) ⌝ }
+    ensures { λ _. ⌜ Striped (now (part .entry)) (now (part .exit)) (length (now (values .entry))) w
+        (λ i j. getD (now (values .entry)) i 0) ⌝ }
 {
     let n = values.len();
     let mut from: usize = 0;
@@ -37,20 +44,8 @@ fn rows(part: &mut [u8], values: &[u8], w: usize)
     }
 }
 
-// A copy of values, of which there are at most 90.
-fn held(values: &[u8]) -> [u8; 90]
-    requires { ⌜ length (now values) ≤ 90 ⌝ }
-    ensures { λ r. ⌜ Starts r (now (values .entry)) ⌝ }
-{
-    let mut row: [u8; 90] = [0; 90];
-    for i in 0..values.len() {
-        row[i] = values[i];
-    }
-    row
-}
-
-// Of w rows each is a copy of row's first n bytes, at most 16. A row is written as 16 bytes, which is one store; what runs past its end the next
-// rows overwrite. The last rows, where fewer than 16 bytes are left, are copied as they are.
+// Of w rows each is a copy of row's first n bytes, at most 16. A row is written as 16 bytes, which is one store; what runs past its end
+// the next rows overwrite. The last rows, where fewer than 16 bytes are left, are copied as they are.
 fn narrow_rows(part: &mut [u8], row: &[u8], n: usize, w: usize)
     requires { ⌜ (n ≤ 16) × (16 ≤ length (now row)) × (length (now part) ≡ n * w) ⌝ }
     ensures { λ _. ⌜ Striped (now (part .entry)) (now (part .exit)) n w (λ i j. getD (now (row .entry)) i 0) ⌝ }
@@ -66,21 +61,22 @@ fn narrow_rows(part: &mut [u8], row: &[u8], n: usize, w: usize)
     rows(&mut part[from..len], &row[..n], w - j);
 }
 
-// Eight copies of row, which has at most 90 bytes.
-fn eight_copies(row: &[u8]) -> [u8; 720]
-    requires { ⌜ length (now row) ≤ 90 ⌝ }
+// Eight copies of row, which has no more bytes than the longest side has places.
+fn eight_copies(row: &[u8]) -> [u8; BLOCK]
+    requires { ⌜ length (now row) ≤ longestSide ⌝ }
     ensures { λ r. ⌜ Block r (now (row .entry)) ⌝ }
 {
-    let mut block: [u8; 720] = [0; 720];
+    let mut block: [u8; BLOCK] = [0; BLOCK];
     let count = 8 * row.len();
     rows(&mut block[..count], row, 8);
     block
 }
 
-// Of w rows each is a copy of row, which has at most 90 bytes. From 16 rows on eight are copied at once, and the last w % 8 one by one.
+// Of w rows each is a copy of row, as long as that at most. From 16 rows on eight are copied at once, and the last w % 8 one by one.
 fn wide_rows(part: &mut [u8], row: &[u8], w: usize)
-    requires { ⌜ (length (now row) ≤ 90) × (length (now part) ≡ length (now row) * w) ⌝ }
-    ensures { λ _. ⌜ Striped (now (part .entry)) (now (part .exit)) (length (now (row .entry))) w (λ i j. getD (now (row .entry)) i 0) ⌝ }
+    requires { ⌜ (length (now row) ≤ longestSide) × (length (now part) ≡ length (now row) * w) ⌝ }
+    ensures { λ _. ⌜ Striped (now (part .entry)) (now (part .exit)) (length (now (row .entry))) w
+        (λ i j. getD (now (row .entry)) i 0) ⌝ }
 {
     if w < 16 {
         rows(part, row, w);
@@ -98,20 +94,22 @@ fn wide_rows(part: &mut [u8], row: &[u8], w: usize)
 
 // Of w tracks each is a copy of values, so that column i is values[i - 1] from end to end. The compiler knows that an array
 // held here is apart from the part, and copies its rows without a test.
-fn columns(part: &mut [u8], values: &[u8], w: usize)
+pub fn columns(part: &mut [u8], values: &[u8], w: usize)
     requires { ⌜ length (now part) ≡ length (now values) * w ⌝ }
-    ensures { λ _. ⌜ Striped (now (part .entry)) (now (part .exit)) (length (now (values .entry))) w (λ i j. getD (now (values .entry)) i 0) ⌝ }
+    ensures { λ _. ⌜ Striped (now (part .entry)) (now (part .exit)) (length (now (values .entry))) w
+        (λ i j. getD (now (values .entry)) i 0) ⌝ }
 {
     let n = values.len();
     if n == 1 {
         fill(part, values[0]);
         return;
     }
-    if n > 90 {
+    if n > LONGEST_SIDE {
         rows(part, values, w);
         return;
     }
-    let row = held(values);
+    let mut row: [u8; LONGEST_SIDE] = [0; LONGEST_SIDE];
+    copy(&mut row[..n], values);
     let r = &row[..];
     if n <= 16 {
         narrow_rows(part, r, n, w);
@@ -123,7 +121,8 @@ fn columns(part: &mut [u8], values: &[u8], w: usize)
 // Row j is values[j - 1] in each of its n bytes.
 fn runs(part: &mut [u8], values: &[u8], n: usize)
     requires { ⌜ length (now part) ≡ n * length (now values) ⌝ }
-    ensures { λ _. ⌜ Striped (now (part .entry)) (now (part .exit)) n (length (now (values .entry))) (λ i j. getD (now (values .entry)) j 0) ⌝ }
+    ensures { λ _. ⌜ Striped (now (part .entry)) (now (part .exit)) n (length (now (values .entry)))
+        (λ i j. getD (now (values .entry)) j 0) ⌝ }
 {
     let mut from: usize = 0;
     for j in 0..values.len() {
@@ -135,7 +134,8 @@ fn runs(part: &mut [u8], values: &[u8], n: usize)
 // The same for rows of at most 16 bytes, written as in `narrow_rows`.
 fn narrow_runs(part: &mut [u8], values: &[u8], n: usize)
     requires { ⌜ (n ≤ 16) × (length (now part) ≡ n * length (now values)) ⌝ }
-    ensures { λ _. ⌜ Striped (now (part .entry)) (now (part .exit)) n (length (now (values .entry))) (λ i j. getD (now (values .entry)) j 0) ⌝ }
+    ensures { λ _. ⌜ Striped (now (part .entry)) (now (part .exit)) n (length (now (values .entry)))
+        (λ i j. getD (now (values .entry)) j 0) ⌝ }
 {
     let len = part.len();
     let mut from: usize = 0;
@@ -149,9 +149,10 @@ fn narrow_runs(part: &mut [u8], values: &[u8], n: usize)
 }
 
 // Track j is values[j - 1] in each of its n columns.
-fn tracks(part: &mut [u8], values: &[u8], n: usize)
+pub fn tracks(part: &mut [u8], values: &[u8], n: usize)
     requires { ⌜ length (now part) ≡ n * length (now values) ⌝ }
-    ensures { λ _. ⌜ Striped (now (part .entry)) (now (part .exit)) n (length (now (values .entry))) (λ i j. getD (now (values .entry)) j 0) ⌝ }
+    ensures { λ _. ⌜ Striped (now (part .entry)) (now (part .exit)) n (length (now (values .entry)))
+        (λ i j. getD (now (values .entry)) j 0) ⌝ }
 {
     if n == 1 {
         copy(part, values);
@@ -162,30 +163,4 @@ fn tracks(part: &mut [u8], values: &[u8], n: usize)
         return;
     }
     runs(part, values, n);
-}
-
-// count bytes of the wiring from `from` on.
-pub fn paint_run(wiring: &mut [u8], from: usize, count: usize, v: u8)
-    requires { ⌜ from + count ≤ length (now wiring) ⌝ }
-    ensures { λ _. ⌜ Painted (now (wiring .entry)) (now (wiring .exit)) from count 1 (λ i j. v) ⌝ }
-{
-    fill(&mut wiring[from..from + count], v);
-}
-
-// The layer of n × w bytes that starts at `from`, each column one value: n is the number of values.
-pub fn paint_columns(wiring: &mut [u8], from: usize, values: &[u8], w: usize)
-    requires { ⌜ (from + length (now values) * w ≤ length (now wiring)) ⌝ }
-    ensures { λ _. ⌜ Painted (now (wiring .entry)) (now (wiring .exit)) from (length (now (values .entry))) w (λ i j. getD (now (values .entry)) i 0) ⌝ }
-{
-    let to = from + values.len() * w;
-    columns(&mut wiring[from..to], values, w);
-}
-
-// The same with each track one value: w is the number of values.
-pub fn paint_tracks(wiring: &mut [u8], from: usize, values: &[u8], n: usize)
-    requires { ⌜ (from + n * length (now values) ≤ length (now wiring)) ⌝ }
-    ensures { λ _. ⌜ Painted (now (wiring .entry)) (now (wiring .exit)) from n (length (now (values .entry))) (λ i j. getD (now (values .entry)) j 0) ⌝ }
-{
-    let to = from + n * values.len();
-    tracks(&mut wiring[from..to], values, n);
 }

@@ -9,8 +9,8 @@ use native.Mathlib.Omega.{arith}
 use lib.ListN.{length, getD, set, take, drop}
 use lib.Seq.{paste-suc, length-paste, take-length}
 use borrow.Author.Tests.{le-leb, lt-leb}
-use Rattle.ticket.specs.declared.Ticket.{Ticket}
-use Rattle.checker.specs.declared.CheckAnswer.{CheckAnswer}
+use Rattle.ticket.specs.declared.Reading.{Reading}
+use Rattle.terms.specs.declared.Refusal.{Refusal}
 use Rattle.checker.specs.Check.{Checked}
 use Rattle.pozqaben.specs.Answers.{checkEntries, Answered, Tells}
 
@@ -40,13 +40,13 @@ answered {s} {t} {d} {a} e fits kept =
 pub not-both : {A : Type 0} → false ≡ true → A
 not-both e = let z : _≡_ {A = ℕ} 0 1 = cc in absurd (omega arith)
 
-module _ {t : Ticket} {w k : ℕ} {first : Bool} {x y y′ b : List ℕ} where
+module _ {t : Reading} {w k : ℕ} {first : Bool} {x y y′ b : List ℕ} where
   -- an array without room for two entries is left as it was; no answer is promised then
   pub untold : length b < 2 → Tells t w k first x y y′ b false b
   untold short =
-      let none : CheckAnswer = record { number = 0; place = 0 } in
+      let none : Refusal = record { number = 0; place = 0 } in
       record { told = none; entries = unanswered (checkEntries none) b short; checked = λ e. not-both e }
 
-  pub told : {a : CheckAnswer} {s c : List ℕ} → Checked t w k first x y y′ a → s ≡ checkEntries a → 2 ≤ length b → c ≡ s ++ drop (length s) b
+  pub told : {a : Refusal} {s c : List ℕ} → Checked t w k first x y y′ a → s ≡ checkEntries a → 2 ≤ length b → c ≡ s ++ drop (length s) b
       → Tells t w k first x y y′ b true c
   told {a} found e fits kept = record { told = a; entries = answered e fits kept; checked = λ _. found }

@@ -4,7 +4,7 @@ use mathlib.Core.Path.{_≡_, ap, _∙_}
 use mathlib.Core.Logic.{_≢_}
 use mathlib.Core.List.{List, [], _∷_, _++_}
 use lib.ListN.{length, drop}
-use Rattle.grid.specs.declared.Refusal.{Refusal}
+use Rattle.terms.specs.declared.Refusal.{Refusal}
 use Rattle.grid.specs.Grid.{upright}
 use Rattle.grid.specs.Legal.{index}
 use Rattle.view.specs.View.{viewRefusal, viewPart}

@@ -19,29 +19,29 @@ use mathlib.Core.List.{List, [], _∷_, _++_}
 use lib.Dec.{leb}
 use lib.ListN.{length, getD, take, drop}
 use Rattle.view.specs.View.{viewRefusal, viewStart, viewLength}
-use Rattle.ticket.specs.declared.Ticket.{Ticket}
+use Rattle.ticket.specs.declared.Reading.{Reading}
 use Rattle.ticket.specs.declared.ReadAnswer.{ReadAnswer}
 use Rattle.survey.specs.declared.SurveyAnswer.{SurveyAnswer}
 use Rattle.router.specs.declared.LayAnswer.{LayAnswer}
-use Rattle.checker.specs.declared.CheckAnswer.{CheckAnswer}
+use Rattle.terms.specs.declared.Refusal.{Refusal}
 use Rattle.checker.specs.Check.{Checked}
 
 abbrev pub bit : Bool → ℕ
 bit b = cond b 1 0
 
 abbrev pub readEntries : ReadAnswer → List ℕ
-readEntries a = a .number ∷ a .place ∷ a .kind ∷ a .n .0 ∷ a .byte2 ∷ a .nets ∷ []
+readEntries a = a .refusal .number ∷ a .refusal .place ∷ a .kind ∷ a .n .0 ∷ a .byte2 ∷ a .nets ∷ []
 
 abbrev pub surveyEntries : SurveyAnswer → List ℕ
 surveyEntries a =
-    a .number ∷ a .place ∷ a .kind ∷ a .n .0 ∷ a .w .0 ∷ a .nets ∷ a .across ∷ a .up ∷ a .layers .0 ∷ a .floor .0 ∷ []
+    a .refusal .number ∷ a .refusal .place ∷ a .kind ∷ a .n .0 ∷ a .w .0 ∷ a .nets ∷ a .across ∷ a .up ∷ a .layers .0 ∷ a .floor .0 ∷ []
 
 abbrev pub layEntries : LayAnswer → List ℕ
 layEntries a =
-    a .number
-    ∷ a .place ∷ a .kind ∷ a .n .0 ∷ a .w .0 ∷ a .k .0 ∷ bit (a .first) ∷ a .nets ∷ a .across ∷ a .up ∷ a .floor .0 ∷ []
+    a .refusal .number ∷ a .refusal .place ∷ a .kind ∷ a .n .0 ∷ a .w .0 ∷ a .k .0 ∷ bit
+    (a .first) ∷ a .nets ∷ a .across ∷ a .up ∷ a .floor .0 ∷ []
 
-abbrev pub checkEntries : CheckAnswer → List ℕ
+abbrev pub checkEntries : Refusal → List ℕ
 checkEntries a = a .number ∷ a .place ∷ []
 
 abbrev pub viewEntries : List ℕ → ℕ → ℕ → ℕ → ℕ → List ℕ
@@ -55,7 +55,7 @@ pub record Answered (entries before : List ℕ) (r : Bool) (after : List ℕ) : 
   pub room : r ≡ leb (length entries) (length before)
   pub stored : after ≡ cond r (entries ++ drop (length entries) before) before
 
-pub record Tells (t : Ticket) (w k : ℕ) (first : Bool) (x y y′ before : List ℕ) (r : Bool) (after : List ℕ) : Type 0 where
-  pub told : CheckAnswer
+pub record Tells (t : Reading) (w k : ℕ) (first : Bool) (x y y′ before : List ℕ) (r : Bool) (after : List ℕ) : Type 0 where
+  pub told : Refusal
   pub entries : Answered (checkEntries told) before r after
   pub checked : r ≡ true → Checked t w k first x y y′ told

@@ -1,11 +1,11 @@
 // The public calls, exported for C and Rust. Each writes its answer, number by number, into an array that the caller lends,
 // and returns whether the array had the room; where it had not, nothing at all is altered.
-use checker::CheckAnswer;
 use grid::Column;
 use grid::Layer;
 use grid::Track;
 use router::LayAnswer;
 use survey::SurveyAnswer;
+use terms::Refusal;
 use ticket::ReadAnswer;
 ghost use mathlib.Core.Path.{_≡_};
 ghost use mathlib.Core.Bool.{true, false};
@@ -15,9 +15,9 @@ ghost use lib.ListN.{length, drop};
 ghost use Rattle.view.specs.View.{viewPart};
 ghost use Rattle.ticket.specs.Read.{ticketOf, readOf};
 ghost use Rattle.survey.specs.Survey.{surveyOf};
-ghost use Rattle.router.specs.Lay.{layOf};
-ghost use Rattle.pozqaben.specs.Lays.{Lays};
-ghost use Rattle.pozqaben.specs.Answers.{bit, readEntries, surveyEntries, layEntries, checkEntries, viewEntries, partTold, Answered, Tells};
+ghost use Rattle.router.specs.Lay.{layOf, Lays};
+ghost use Rattle.pozqaben.specs.Answers.{bit, readEntries, surveyEntries, layEntries, checkEntries, viewEntries, partTold};
+ghost use Rattle.pozqaben.specs.Answers.{Answered, Tells};
 
 // Stores the entries at the array's start.
 fn put(answer: &mut [u64], entries: &[u64])
@@ -33,8 +33,8 @@ fn read_entries(a: ReadAnswer) -> [u64; 6]
     ensures { λ r. ⌜ r ≡ readEntries a ⌝ }
 {
     [
-        a.number as u64,
-        a.place as u64,
+        a.refusal.number as u64,
+        a.refusal.place as u64,
         a.kind as u64,
         a.n.0 as u64,
         a.byte2 as u64,
@@ -59,8 +59,8 @@ fn survey_entries(a: SurveyAnswer) -> [u64; 10]
     ensures { λ r. ⌜ r ≡ surveyEntries a ⌝ }
 {
     [
-        a.number as u64,
-        a.place as u64,
+        a.refusal.number as u64,
+        a.refusal.place as u64,
         a.kind as u64,
         a.n.0 as u64,
         a.w.0 as u64,
@@ -95,8 +95,8 @@ fn lay_entries(a: LayAnswer) -> [u64; 11]
     ensures { λ r. ⌜ r ≡ layEntries a ⌝ }
 {
     [
-        a.number as u64,
-        a.place as u64,
+        a.refusal.number as u64,
+        a.refusal.place as u64,
         a.kind as u64,
         a.n.0 as u64,
         a.w.0 as u64,
@@ -115,8 +115,8 @@ pub extern "C" fn pozqaben_lay(ticket: &[u8], wiring: &mut [u8], answer: &mut [u
     ensures answer { λ r. ⌜ Answered (layEntries (layOf (now (ticket .entry)) (length (now (wiring .entry))))) (now (answer .entry))
         r (now (answer .exit)) ⌝ }
     ensures short { λ r. ⌜ (r ≡ false → now (wiring .exit) ≡ now (wiring .entry)) ⌝ }
-    ensures lays { λ r. ⌜ (r ≡ true → Lays (now (ticket .entry)) (layOf (now (ticket .entry)) (length (now (wiring .entry))))
-        (now (wiring .entry)) (now (wiring .exit))) ⌝ }
+    ensures lays { λ r. ⌜ (r ≡ true → Lays (now (ticket .entry)) (now (wiring .entry)) (now (wiring .exit))
+        (layOf (now (ticket .entry)) (length (now (wiring .entry))))) ⌝ }
 {
     if answer.len() < 11 {
         return false;
@@ -126,7 +126,7 @@ pub extern "C" fn pozqaben_lay(ticket: &[u8], wiring: &mut [u8], answer: &mut [u
     true
 }
 
-fn check_entries(a: CheckAnswer) -> [u64; 2]
+fn check_entries(a: Refusal) -> [u64; 2]
     ensures { λ r. ⌜ r ≡ checkEntries a ⌝ }
 {
     [a.number as u64, a.place as u64]
@@ -183,7 +183,8 @@ pub extern "C" fn pozqaben_layer_view(
     answer: &mut [u64],
 ) -> bool
     ensures answer { λ r. ⌜ Answered (viewEntries (now (wiring .entry)) n w k layer) (now (answer .entry)) r (now (answer .exit)) ⌝ }
-    ensures part { λ r. ⌜ (r ≡ true → partTold (now (wiring .entry)) (now (answer .exit)) ≡ viewPart (now (wiring .entry)) n w k layer) ⌝ }
+    ensures part { λ r. ⌜ (r ≡ true → partTold (now (wiring .entry)) (now (answer .exit)) ≡ viewPart (now
+        (wiring .entry)) n w k layer) ⌝ }
 {
     if answer.len() < 4 {
         return false;

@@ -1,34 +1,43 @@
-// Reads stored tickets and prints what Read answers: a record is a length of two bytes, low first, and so many bytes; a line is
-// number, place, kind, n, byte 2 and nets.
+// Prints what Read answers to each stored ticket: number, place, kind, n, byte 2 and nets.
 use libc::STDIN_FILENO;
-use libc::STDOUT_FILENO;
-
-fn field(x: u64) {
-    io::print_decimal(STDOUT_FILENO, x);
-    io::write_all(STDOUT_FILENO, b" ");
-}
+use records::field;
+use records::last_field;
+use terms::wide;
+ghost use Prim.Native.Nat.{_≤_};
+ghost use lib.ListN.{length};
 
 fn show(ticket: &[u8]) {
     let a = ticket::read(ticket);
-    field(a.number as u64);
-    field(a.place as u64);
-    field(a.kind as u64);
-    field(a.n.0 as u64);
-    field(a.byte2 as u64);
-    io::print_decimal(STDOUT_FILENO, a.nets as u64);
-    io::write_all(STDOUT_FILENO, b"\n");
+    records::refusal_fields(a.refusal);
+    field(wide(a.kind));
+    field(grid::column_count(a.n));
+    field(wide(a.byte2));
+    last_field(wide(a.nets));
+}
+
+// Shows the record that starts at `at`, and answers where it ends: at `at` itself where it is not whole.
+fn one(s: &[u8], at: usize) -> usize
+    requires { ⌜ at ≤ length (now s) ⌝ }
+    ensures { λ r. ⌜ r ≤ length (now (s .entry)) ⌝ }
+{
+    let r = records::record_at(s, at, 0);
+    let from = r.from;
+    let end = r.end;
+    if end <= at {
+        return at;
+    }
+    show(&s[from..end]);
+    end
 }
 
 fn all(s: &[u8]) {
     let mut at = 0;
     loop {
-        let end = records::record_end(s, at);
-        if end < at + 2 {
+        let next = one(s, at);
+        if next <= at {
             return;
         }
-        let from = at + 2;
-        show(&s[from..end]);
-        at = end;
+        at = next;
     }
 }
 

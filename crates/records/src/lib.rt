@@ -1,27 +1,72 @@
-// How the vector programs' input is cut into records: a length of two bytes, low first, and so many bytes.
-ghost use Prim.Native.Nat.{_≤_, _<_};
+// What the vector programs share: their input cut into records, the numbers that stand in it, and the fields of the lines that they print.
+use libc::STDOUT_FILENO;
+use terms::BYTE_VALUES;
+use terms::Refusal;
+use terms::entry_of;
+use terms::wide;
+ghost use Prim.Native.Nat.{_+_, _^_, _≤_, _<_};
 ghost use mathlib.Core.Path.{_≡_};
 ghost use lib.ListN.{length};
-ghost use Rattle.records.specs.Records.{recordEnd};
+ghost use Rattle.terms.specs.Limits.{byteValues};
+ghost use Rattle.records.specs.Records.{numberAt, Cut};
 
-fn wide(x: u8) -> usize
-    ensures { λ r. ⌜ (r ≡ x) × (r < 256) ⌝ }
-{
-    x as usize
+// Where a record's ticket stands: from byte `from` to the byte before `end`.
+pub struct Record {
+    pub from: usize,
+    pub end: usize,
 }
 
-// Where the record that starts at `at` ends; `at` itself where it is not whole. (For our own crates.)
-pub fn record_end(s: &[u8], at: usize) -> usize
-    requires { ⌜ at ≤ length (now s) ⌝ }
-    ensures { λ r. ⌜ (r ≡ recordEnd (now (s .entry)) at) × (r ≤ length (now (s .entry))) ⌝ }
+// The number of two bytes at `at`. (For our own crates.)
+pub fn pair(s: &[u8], at: usize) -> usize
+    requires { ⌜ at + 2 ≤ length (now s) ⌝ }
+    ensures { λ r. ⌜ (r ≡ numberAt (now (s .entry)) at 2) × (r < byteValues ^ 2) ⌝ }
 {
-    let left = s.len() - at;
-    if left < 2 {
-        return at;
+    entry_of(s[at]) + BYTE_VALUES * entry_of(s[at + 1])
+}
+
+// The number of three bytes at `at`. (For our own crates.)
+pub fn triple(s: &[u8], at: usize) -> usize
+    requires { ⌜ at + 3 ≤ length (now s) ⌝ }
+    ensures { λ r. ⌜ (r ≡ numberAt (now (s .entry)) at 3) × (r < byteValues ^ 3) ⌝ }
+{
+    entry_of(s[at]) + BYTE_VALUES * pair(s, at + 1)
+}
+
+// The record that starts at `at` and has `more` bytes after its ticket; where it is not whole, an empty one that ends at `at`.
+// (For our own crates.)
+pub fn record_at(s: &[u8], at: usize, more: usize) -> Record
+    requires { ⌜ at ≤ length (now s) ⌝ }
+    ensures { λ r. ⌜ Cut (now (s .entry)) at more r ⌝ }
+{
+    let none = Record { from: at, end: at };
+    if s.len() - at < 2 {
+        return none;
     }
-    let size = wide(s[at]) + 256 * wide(s[at + 1]);
-    if left - 2 < size {
-        return at;
+    let size = pair(s, at);
+    let from = at + 2;
+    if s.len() - from < size {
+        return none;
     }
-    at + 2 + size
+    let end = from + size;
+    if s.len() - end < more {
+        return none;
+    }
+    Record { from, end }
+}
+
+pub fn field(x: usize) {
+    io::print_decimal(STDOUT_FILENO, x as u64);
+    io::write_all(STDOUT_FILENO, b" ");
+}
+
+// The last field of a line.
+pub fn last_field(x: usize) {
+    io::print_decimal(STDOUT_FILENO, x as u64);
+    io::write_all(STDOUT_FILENO, b"\n");
+}
+
+// A refusal's number and place as the fields of a line that goes on.
+pub fn refusal_fields(r: Refusal) {
+    field(wide(r.number));
+    field(r.place);
 }

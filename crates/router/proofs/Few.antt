@@ -9,20 +9,28 @@ use borrow.Author.Tests.{eq-eqb}
 use Rattle.counting.specs.Counting.{In, bit, count}
 use Rattle.counting.proofs.Sums.{split, bit-le, bit-one, bit-zero, sum-le, sum-add, sum-part, sum-two, double-count}
 use Rattle.counting.proofs.Counts.{most-le}
-use Rattle.grid.specs.Grid.{Side, north, south, west, east, pin, places}
-use Rattle.grid.specs.Legal.{Pins, topNet, nets, box}
+use Rattle.terms.specs.Kinds.{Side, north, south, west, east}
+use Rattle.terms.proofs.Laws.{Thin, no-west, no-east}
+use Rattle.terms.specs.Limits.{largestNet}
+use Rattle.grid.specs.Grid.{pin, places}
+use Rattle.grid.specs.Legal.{Pins, nets}
 use Rattle.density.specs.Density.{passes, across}
 use Rattle.density.proofs.Pinned.{passes-iff}
-use Rattle.ticket.specs.declared.Ticket.{Ticket}
-use Rattle.ticket.specs.Format.{pinsIn}
-use Rattle.ticket.specs.Good.{gridIn, Another, Good}
+use Rattle.problem.specs.declared.Problem.{Problem}
+use Rattle.problem.specs.Problem.{pinsIn, shapeOf, Another, Good}
 
-module _ (t : Ticket) (good : Good t) (thin : t .answer .kind ≢ box) where
+module _ (q : Problem) (good : Good q) (thin : Thin (q .kind)) where
+  bare-west : (a : ℕ) → pinsIn (q .pins) west a ≡ 0
+  bare-west = good .bare west (no-west thin)
+
+  bare-east : (a : ℕ) → pinsIn (q .pins) east a ≡ 0
+  bare-east = good .bare east (no-east thin)
+
   abbrev p : Pins
-  p = pinsIn (t .pins)
+  p = pinsIn (q .pins)
 
   abbrev n : ℕ
-  n = t .answer .n .0
+  n = q .n .0
 
   -- how many pins net m has on a side
   abbrev on : Side → ℕ → ℕ
@@ -40,36 +48,46 @@ module _ (t : Ticket) (good : Good t) (thin : t .answer .kind ≢ box) where
     | no h ↦ omega (arith, sum-two (λ a. bit (eqb (p s a) m)) b a n j i (omega (arith, ne)), hit s a m e, hit s b m f)
   ]
 
-  two : (m : ℕ) → 1 ≤ m → (s : Side) (a : ℕ) → In a (places (gridIn t) s) → p s a ≡ m → 2 ≤ on north m + on south m
-  two m nz s a i e = go s a i e (q .side) (q .place) (q .on) (q .net ∙ e) (q .different)
+  two : (m : ℕ) → 1 ≤ m → (s : Side) (a : ℕ) → In a (places (shapeOf q) s) → p s a ≡ m → 2 ≤ on north m + on south m
+  two m nz s a i e = go s a i e (o .side) (o .place) (o .on) (o .net ∙ e) (o .different)
     where
-      q : Another (gridIn t) p s a
-      q = good .several s a (λ z. omega (arith, e, z))
+      o : Another (shapeOf q) p s a
+      o = good .several s a (λ z. omega (arith, e, z))
 
-      go : (s : Side) (a : ℕ) → In a (places (gridIn t) s) → p s a ≡ m → (s′ : Side) (b : ℕ) → In b (places (gridIn t) s′) → p s′ b ≡ m → pin s′ b ≢ pin s a
+      go : (s : Side) (a : ℕ) → In a (places (shapeOf q) s) → p s a ≡ m → (s′ : Side) (b : ℕ) → In b (places (shapeOf q) s′) → p s′ b ≡ m
+          → pin s′ b ≢ pin s a
           → 2 ≤ on north m + on south m
-      go west a i e s′ b j f d = absurd (omega (arith, good .bare-west thin a, e))
-      go east a i e s′ b j f d = absurd (omega (arith, good .bare-east thin a, e))
-      go north a i e west b j f d = absurd (omega (arith, good .bare-west thin b, f))
-      go north a i e east b j f d = absurd (omega (arith, good .bare-east thin b, f))
-      go south a i e west b j f d = absurd (omega (arith, good .bare-west thin b, f))
-      go south a i e east b j f d = absurd (omega (arith, good .bare-east thin b, f))
+      go west a i e s′ b j f d = absurd (omega (arith, bare-west a, e))
+      go east a i e s′ b j f d = absurd (omega (arith, bare-east a, e))
+      go north a i e west b j f d = absurd (omega (arith, bare-west b, f))
+      go north a i e east b j f d = absurd (omega (arith, bare-east b, f))
+      go south a i e west b j f d = absurd (omega (arith, bare-west b, f))
+      go south a i e east b j f d = absurd (omega (arith, bare-east b, f))
       go north a i e south b j f d = omega (arith, one north a m i e, one south b m j f)
       go south a i e north b j f d = omega (arith, one south a m i e, one north b m j f)
       go north a i e north b j f d = omega (arith, both north a b m i j (λ h. d (ap (pin north) (sym h))) e f)
       go south a i e south b j f d = omega (arith, both south a b m i j (λ h. d (ap (pin south) (sym h))) e f)
 
-  few : (c : ℕ) → nets (passes (gridIn t) p c) ≤ n
+  few : (c : ℕ) → nets (passes (shapeOf q) p c) ≤ n
   few c =
-      let f : ℕ → ℕ = λ m. bit (passes (gridIn t) p c m) in
-      let pairs = sum-le (λ m. f m + f m) (λ m. on north m + on south m) topNet each in
-      omega (arith, pairs, sum-add f f topNet, sum-add (on north) (on south) topNet, double-count (p north) n topNet, double-count (p south) n topNet)
+      let f : ℕ → ℕ = λ m. bit (passes (shapeOf q) p c m) in
+      let pairs = sum-le (λ m. f m + f m) (λ m. on north m + on south m) largestNet each in
+      omega (
+        arith,
+        pairs,
+        sum-add f f largestNet,
+        sum-add (on north) (on south) largestNet,
+        double-count (p north) n largestNet,
+        double-count
+            (p south) n largestNet,
+      )
     where
-      each : (m : ℕ) → In m topNet → bit (passes (gridIn t) p c m) + bit (passes (gridIn t) p c m) ≤ on north m + on south m
-      each m i = split (passes (gridIn t) p c m)
-          (λ e. let u = passes-iff (gridIn t) p c m .0 e .0 in omega (arith, bit-le (passes (gridIn t) p c m), two m (i .0) (u .side) (u .place) (u .on) (u .net)))
+      each : (m : ℕ) → In m largestNet → bit (passes (shapeOf q) p c m) + bit (passes (shapeOf q) p c m) ≤ on north m + on south m
+      each m i = split (passes (shapeOf q) p c m)
+          (λ e. let u = passes-iff (shapeOf q) p c m .0 e .0 in omega
+          (arith, bit-le (passes (shapeOf q) p c m), two m (i .0) (u .side) (u .place) (u .on) (u .net)))
           (λ e. omega (arith, bit-zero e))
 
-  pub across-few : across (gridIn t) p ≤ n
+  pub across-few : across (shapeOf q) p ≤ n
   unfolding across
   across-few = most-le _ n n (λ c i. few c)

@@ -2,34 +2,31 @@
 -- those that no rival beats.
 use Prim.Native.Nat.{ℕ, zero, suc, _+_, _*_, _/_, _≤_, max, min}
 use mathlib.Core.Path.{_≡_, refl, sym, ap, _∙_, subst, subst₂, fun-ext}
-use mathlib.Core.Logic.{_≢_, by-cases}
-use mathlib.Core.Bool.{Bool, false, cond}
+use mathlib.Core.Bool.{Bool, false}
 use mathlib.Core.List.{List, []}
 use native.Mathlib.Omega.{arith}
-use native.Mathlib.Decide.{ℕ-discrete}
 use native.Mathlib.Nat.{mul-comm, mul-le-mul-left, mul-le-mul-right}
 use lib.Dec.{ltb}
 use lib.ListN.{length, getD}
-use borrow.Author.Tests.{eq-eqb, ne-eqb}
 use Rattle.counting.specs.Counting.{In, ceil, bit}
 use Rattle.counting.proofs.Counts.{ceil-le, round-up}
-use Rattle.grid.specs.Grid.{Grid, upright, Side, north, south, west, east}
-use Rattle.grid.specs.Legal.{Pins, Wiring, Legal, GridOf, row, channel, box, entry}
-use Rattle.grid.specs.Limits.{longestSide, mostLayers}
+use Rattle.terms.specs.Kinds.{Side, north, south, west, east, row, channel, box, hasSide, largestByte2, layersFor}
+use Rattle.terms.proofs.Laws.{Known, is-row, is-channel, is-box, known, Thin, thin-row, thin-channel, of-thin, of-box, no-west, no-east}
+use Rattle.grid.specs.Grid.{Grid, upright}
+use Rattle.terms.specs.Limits.{longestSide, mostLayers, mostTrunkLayers}
+use Rattle.grid.specs.Legal.{Pins, Wiring, Legal, GridOf, entry}
 use Rattle.grid.proofs.Sizes.{Sized}
-use Rattle.density.specs.Density.{across, up, horizontals, tracksFor, floorOf}
+use Rattle.density.specs.Density.{across, horizontals, tracksFor, floorOf}
 use Rattle.density.proofs.Layers.{horizontals-are}
 use Rattle.density.proofs.Free.{across-free}
 use Rattle.density.proofs.Bounds.{narrowest, lowest}
-use Rattle.ticket.specs.declared.Ticket.{Ticket}
-use Rattle.ticket.specs.Format.{pinsIn}
-use Rattle.ticket.specs.Good.{gridIn, Good}
-use Rattle.survey.specs.declared.SurveyFigures.{SurveyFigures}
-use Rattle.survey.specs.Survey.{figuresOf, trunkFigures, boxFigures, layersFor}
-use Rattle.paint.specs.Laid.{Laid}
+use Rattle.problem.specs.declared.Problem.{Problem}
+use Rattle.problem.specs.Problem.{pinsIn, widthOf, shapeOf, Good}
+use Rattle.figures.specs.Figures.{acrossOf, tracksOf, figuresOf}
+use Rattle.grid.specs.Laid.{Laid}
 use Rattle.channel.specs.Given.{columnPins, Given}
 use Rattle.switchbox.specs.Wired.{boxLayers, boxGrid, BoxPins}
-use Rattle.router.specs.Lay.{firstOf, needed, laidAnswer, gridOf}
+use Rattle.router.specs.Lay.{firstOf, needed, laidAnswer, laidGrid}
 use Rattle.router.proofs.Few.{across-few}
 
 abbrev sized : ℕ → ℕ → ℕ → Bool → Grid
@@ -43,185 +40,203 @@ same-grid n {w} {w′} {k} {k′} {b} {b′} e f h =
 laid-in : {g h : Grid} {p : Pins} {before after : List ℕ} → g ≡ h → Laid g p before after → Laid h p before after
 laid-in {p = p} {before = before} {after = after} e y = subst (λ (u : Grid). Laid u p before after) e y
 
-module _ (t : Ticket) where
+module _ (q : Problem) where
   abbrev kind : ℕ
-  kind = t .answer .kind
+  kind = q .kind
 
   abbrev n : ℕ
-  n = t .answer .n .0
+  n = q .n .0
 
   abbrev byte2 : ℕ
-  byte2 = t .answer .byte2
+  byte2 = q .byte2
 
   abbrev p : Pins
-  p = pinsIn (t .pins)
+  p = pinsIn (q .pins)
 
   abbrev tracks : ℕ
-  tracks = figuresOf t .w .0
+  tracks = figuresOf q .w .0
 
   abbrev layers : ℕ
-  layers = figuresOf t .layers .0
+  layers = figuresOf q .layers .0
 
   -- ---- the figures, kind by kind
 
-  thin-figures : kind ≢ box → figuresOf t ≡ trunkFigures byte2 (across (gridIn t) p) (layersFor kind n byte2)
+  thin-tracks : Thin kind → tracks ≡ tracksFor byte2 (acrossOf q)
   unfolding figuresOf
-  thin-figures h = ap (λ (b : Bool). cond b (boxFigures n byte2 (across (gridIn t) p) (up (gridIn t) p) (layersFor kind n byte2))
-      (trunkFigures byte2 (across (gridIn t) p) (layersFor kind n byte2))) (ne-eqb kind box h)
-
-  box-figures : kind ≡ box → figuresOf t ≡ boxFigures n byte2 (across (gridIn t) p) (up (gridIn t) p) (layersFor kind n byte2)
-  unfolding figuresOf
-  box-figures e = ap (λ (b : Bool). cond b (boxFigures n byte2 (across (gridIn t) p) (up (gridIn t) p) (layersFor kind n byte2))
-      (trunkFigures byte2 (across (gridIn t) p) (layersFor kind n byte2))) (eq-eqb kind box e)
-
-  thin-tracks : kind ≢ box → tracks ≡ tracksFor byte2 (across (gridIn t) p)
-  thin-tracks h = ap (λ (f : SurveyFigures). f .w .0) (thin-figures h)
+  thin-tracks h = of-thin h 0 (tracksOf q) byte2
 
   row-layers : kind ≡ row → layers ≡ 2 * byte2
-  row-layers e = ap (λ (f : SurveyFigures). f .layers .0) (thin-figures (λ h. omega arith)) ∙ rw (ne-eqb kind box (λ h. omega arith), eq-eqb kind row e)
+  unfolding figuresOf
+  row-layers e = ap (λ (k : ℕ). layersFor k n byte2) e
 
   channel-layers : kind ≡ channel → layers ≡ 2 * byte2 + 1
-  channel-layers e = ap (λ (f : SurveyFigures). f .layers .0) (thin-figures (λ h. omega arith)) ∙ rw (ne-eqb kind box (λ h. omega arith), ne-eqb kind row (λ h. omega arith))
+  unfolding figuresOf
+  channel-layers e = ap (λ (k : ℕ). layersFor k n byte2) e
 
   box-tracks : kind ≡ box → tracks ≡ byte2
-  box-tracks e = ap (λ (f : SurveyFigures). f .w .0) (box-figures e)
+  unfolding figuresOf
+  box-tracks e = of-box kind 0 (tracksOf q) (tracksOf q) byte2 e
 
   box-layers : kind ≡ box → layers ≡ boxLayers n byte2
-  box-layers e = ap (λ (f : SurveyFigures). f .layers .0) (box-figures e) ∙ rw (eq-eqb kind box e)
+  unfolding figuresOf
+  box-layers e = ap (λ (k : ℕ). layersFor k n byte2) e
 
-  box-floor : kind ≡ box → figuresOf t .floor .0 ≡ floorOf (gridIn t) p
-  box-floor e = ap (λ (f : SurveyFigures). f .floor .0) (box-figures e)
+  box-floor : kind ≡ box → figuresOf q .floor .0 ≡ floorOf (shapeOf q) p
+  unfolding figuresOf
+  box-floor e = of-box kind 0 0 0 (floorOf (shapeOf q) p) e
 
-  thin-first : kind ≢ box → firstOf t ≡ false
-  thin-first h = rw (ne-eqb kind box h)
+  thin-first : Thin kind → firstOf q ≡ false
+  thin-first h = of-thin h false false (ltb n byte2)
 
-  box-first : kind ≡ box → firstOf t ≡ ltb n byte2
-  box-first e = rw (eq-eqb kind box e)
+  box-first : kind ≡ box → firstOf q ≡ ltb n byte2
+  box-first e = of-box kind false false false (ltb n byte2) e
 
-  module _ (good : Good t) where
+  box-width : kind ≡ box → widthOf q ≡ byte2
+  box-width e = of-box kind 1 1 1 byte2 e
+
+  module _ (good : Good q) where
     -- ---- the sizes are those of a grid that the calls take
 
-    thin-size : kind ≢ box → In tracks longestSide
+    trunks : Thin kind → In byte2 mostTrunkLayers
+    trunks h = small h (good .byte2)
+      where
+        small : {k : ℕ} → Thin k → In byte2 (largestByte2 k) → In byte2 mostTrunkLayers
+        small thin-row i = i
+        small thin-channel i = i
+
+    width : kind ≡ box → In byte2 longestSide
+    width e = subst (λ (k : ℕ). In byte2 (largestByte2 k)) e (good .byte2)
+
+    bare-west : Thin kind → (a : ℕ) → p west a ≡ 0
+    bare-west h = good .bare west (no-west h)
+
+    bare-east : Thin kind → (a : ℕ) → p east a ≡ 0
+    bare-east h = good .bare east (no-east h)
+
+    thin-size : Thin kind → In tracks longestSide
     unfolding tracksFor
     thin-size h =
-        let a : across (gridIn t) p ≤ longestSide = omega (arith, across-few t good h, good .columns) in
-        let c = ceil-le (across (gridIn t) p) byte2 longestSide (omega (arith, mul-le-mul-right longestSide (good .trunks h .0))) in
+        let a : acrossOf q ≤ longestSide = omega (arith, across-few q good h, good .columns) in
+        let c = ceil-le (acrossOf q) byte2 longestSide (omega (arith, mul-le-mul-right longestSide (trunks h .0))) in
         omega (arith, thin-tracks h)
 
-    box-size : kind ≡ box → layers ≤ 184
-    box-size e =
-        let w = good .width e in
-        let q = ceil-le (max n byte2) (min n byte2) longestSide (omega (arith, good .columns, mul-le-mul-right longestSide (low w))) in
+    box-high : kind ≡ box → In layers mostLayers
+    box-high e =
+        let w = width e in
+        let r = ceil-le (max n byte2) (min n byte2) longestSide (omega (arith, good .columns, mul-le-mul-right longestSide (low w))) in
         omega (arith, box-layers e)
       where
         low : In byte2 longestSide → 1 ≤ min n byte2
         low w = omega (arith, good .columns)
 
     pub sizes : Sized n tracks layers
-    sizes = by-cases (ℕ-discrete kind box)
-        (λ e. record { long = good .columns; wide = rw (box-tracks e) (good .width e); high = omega (arith, box-layers e, box-size e) })
-        (λ h. record { long = good .columns; wide = thin-size h; high = thin-high h })
+    sizes = by-kind (known kind (good .kind)) refl
       where
-        thin-high : kind ≢ box → In layers mostLayers
-        thin-high h = by-cases (ℕ-discrete kind row)
-            (λ e. omega (arith, row-layers e, good .trunks h))
-            (λ r. omega (arith, channel-layers (omega (arith, good .kinds, h, r)), good .trunks h))
+        by-kind : {k : ℕ} → Known k → kind ≡ k → Sized n tracks layers
+        by-kind is-row e =
+            let h = subst Thin (sym e) thin-row in
+            record { long = good .columns; wide = thin-size h; high = omega (arith, row-layers e, trunks h) }
+        by-kind is-channel e =
+            let h = subst Thin (sym e) thin-channel in
+            record { long = good .columns; wide = thin-size h; high = omega (arith, channel-layers e, trunks h) }
+        by-kind is-box e = record { long = good .columns; wide = rw (box-tracks e) (width e); high = box-high e }
 
     -- ---- rows and channels
 
-    sides : kind ≢ box → columnPins (t .pins .north) (t .pins .south) ≡ p
+    sides : Thin kind → columnPins (q .pins .north) (q .pins .south) ≡ p
     sides h = fun-ext each
       where
         none : (s : ℕ) → entry [] s ≡ 0
         none zero = refl
         none (suc s) = refl
 
-        each : (s : Side) → columnPins (t .pins .north) (t .pins .south) s ≡ p s
+        each : (s : Side) → columnPins (q .pins .north) (q .pins .south) s ≡ p s
         each north = refl
         each south = refl
-        each west = fun-ext (λ a. none a ∙ sym (good .bare-west h a))
-        each east = fun-ext (λ a. none a ∙ sym (good .bare-east h a))
+        each west = fun-ext (λ a. none a ∙ sym (bare-west h a))
+        each east = fun-ext (λ a. none a ∙ sym (bare-east h a))
 
-    fits : kind ≢ box → (k : ℕ) → across (upright n tracks k) (columnPins (t .pins .north) (t .pins .south)) ≤ byte2 * tracks
+    fits : Thin kind → (k : ℕ) → across (upright n tracks k) (columnPins (q .pins .north) (q .pins .south)) ≤ byte2 * tracks
     unfolding tracksFor
     fits h k =
-        let a = across-free (upright n tracks k) (gridIn t) p refl (good .bare-west h) (good .bare-east h) in
-        let r = round-up (across (gridIn t) p) byte2 (good .trunks h .0) in
-        let m = mul-le-mul-left {m = ceil (across (gridIn t) p) byte2} {n = tracks} byte2 (omega (arith, thin-tracks h)) in
-        rw (sides h, a) (omega (arith, mul-comm byte2 (ceil (across (gridIn t) p) byte2)))
+        let a = across-free (upright n tracks k) (shapeOf q) p refl (bare-west h) (bare-east h) in
+        let r = round-up (acrossOf q) byte2 (trunks h .0) in
+        let m = mul-le-mul-left {m = ceil (acrossOf q) byte2} {n = tracks} byte2 (omega (arith, thin-tracks h)) in
+        rw (sides h, a) (omega (arith, mul-comm byte2 (ceil (acrossOf q) byte2)))
 
-    given : (k : ℕ) (wiring : List ℕ) → kind ≢ box → layers ≡ k → needed t ≤ length wiring → Given (t .pins .north) (t .pins .south) n tracks byte2 k wiring
-    given k wiring h e room = record {
-      columns = good .columns;
-      tracks = thin-size h;
-      trunks = good .trunks h;
-      norths = λ a. good .numbered north (suc a);
-      souths = λ a. good .numbered south (suc a);
-      passed = fits h k;
-      room = subst (λ (u : ℕ). n * tracks * u ≤ length wiring) e room;
-    }
+    module _ (w : ℕ) (same : w ≡ tracks) (wiring : List ℕ) (room : needed q ≤ length wiring) where
+      drawable : (k : ℕ) → Thin kind → layers ≡ k → Given (q .pins .north) (q .pins .south) n w byte2 k wiring
+      drawable k h e = subst (λ (u : ℕ). Given (q .pins .north) (q .pins .south) n u byte2 k wiring) (sym same) (record {
+        columns = good .columns;
+        tracks = thin-size h;
+        trunks = trunks h;
+        norths = λ a. good .numbered north (suc a);
+        souths = λ a. good .numbered south (suc a);
+        passed = fits h k;
+        room = subst (λ (u : ℕ). n * tracks * u ≤ length wiring) e room;
+      })
 
-    module _ (w : ℕ) (same : w ≡ tracks) (wiring : List ℕ) (room : needed t ≤ length wiring) where
-      drawable : (k : ℕ) → kind ≢ box → layers ≡ k → Given (t .pins .north) (t .pins .south) n w byte2 k wiring
-      drawable k h e = subst (λ (u : ℕ). Given (t .pins .north) (t .pins .south) n u byte2 k wiring) (sym same) (given k wiring h e room)
+      pub given-row : kind ≡ row → Given (q .pins .north) (q .pins .south) n w byte2 (2 * byte2) wiring × ((a : ℕ) → getD (q .pins .south) a 0 ≡ 0)
+      given-row e = (drawable (2 * byte2) (subst Thin (sym e) thin-row) (row-layers e), λ a. good .bare south (ap (λ (k : ℕ). hasSide k south) e) (suc a))
 
-      pub given-row : kind ≡ row → Given (t .pins .north) (t .pins .south) n w byte2 (2 * byte2) wiring × ((a : ℕ) → getD (t .pins .south) a 0 ≡ 0)
-      given-row e = (drawable (2 * byte2) (λ h. omega arith) (row-layers e), λ a. good .bare-south e (suc a))
+      pub given-channel : kind ≡ channel → Given (q .pins .north) (q .pins .south) n w byte2 (2 * byte2 + 1) wiring
+      given-channel e = drawable (2 * byte2 + 1) (subst Thin (sym e) thin-channel) (channel-layers e)
 
-      pub given-channel : kind ≡ channel → Given (t .pins .north) (t .pins .south) n w byte2 (2 * byte2 + 1) wiring
-      given-channel e = drawable (2 * byte2 + 1) (λ h. omega arith) (channel-layers e)
+      pub given-box : kind ≡ box → BoxPins (q .pins .north) (q .pins .south) (q .pins .west) (q .pins .east) n w wiring
+      given-box e = record {
+        long = good .columns;
+        wide = rw (same ∙ box-tracks e) (width e);
+        norths = λ i h. good .numbered north (suc i);
+        souths = λ i h. good .numbered south (suc i);
+        wests = λ j h. good .numbered west (suc j);
+        easts = λ j h. good .numbered east (suc j);
+        room = subst₂ (λ (u v : ℕ). n * u * v ≤ length wiring) (sym same) (box-layers e ∙ ap (boxLayers n) (sym (same ∙ box-tracks e))) room;
+      }
 
     module _ (w : ℕ) (same : w ≡ tracks) {before after : List ℕ} where
-      thin-laid : (k : ℕ) → kind ≢ box → layers ≡ k → Laid (upright n w k) (columnPins (t .pins .north) (t .pins .south)) before after → Laid (gridOf (laidAnswer t)) p before after
+      thin-laid : (k : ℕ) → Thin kind → layers ≡ k → Laid (upright n w k) (columnPins (q .pins .north) (q .pins .south)) before after
+          → Laid (laidGrid (laidAnswer q)) p before after
       thin-laid k h e y =
-          laid-in (same-grid n same (sym e) (sym (thin-first h))) (subst (λ (q : Pins). Laid (upright n w k) q before after) (sides h) y)
+          laid-in (same-grid n same (sym e) (sym (thin-first h))) (subst (λ (u : Pins). Laid (upright n w k) u before after) (sides h) y)
 
-      pub row-laid : kind ≡ row → Laid (upright n w (2 * byte2)) (columnPins (t .pins .north) (t .pins .south)) before after → Laid (gridOf (laidAnswer t)) p before after
-      row-laid e = thin-laid (2 * byte2) (λ h. omega arith) (row-layers e)
+      pub row-laid : kind ≡ row → Laid (upright n w (2 * byte2)) (columnPins (q .pins .north) (q .pins .south)) before after
+          → Laid (laidGrid (laidAnswer q)) p before after
+      row-laid e = thin-laid (2 * byte2) (subst Thin (sym e) thin-row) (row-layers e)
 
-      pub channel-laid : kind ≡ channel → Laid (upright n w (2 * byte2 + 1)) (columnPins (t .pins .north) (t .pins .south)) before after → Laid (gridOf (laidAnswer t)) p before after
-      channel-laid e = thin-laid (2 * byte2 + 1) (λ h. omega arith) (channel-layers e)
+      pub channel-laid : kind ≡ channel → Laid (upright n w (2 * byte2 + 1)) (columnPins (q .pins .north) (q .pins .south)) before after
+          → Laid (laidGrid (laidAnswer q)) p before after
+      channel-laid e = thin-laid (2 * byte2 + 1) (subst Thin (sym e) thin-channel) (channel-layers e)
 
-    -- ---- boxes
-
-    pub box-given : kind ≡ box → (wiring : List ℕ) → needed t ≤ length wiring → BoxPins (t .pins .north) (t .pins .south) (t .pins .west) (t .pins .east) n byte2 wiring
-    box-given e wiring room = record {
-      long = good .columns;
-      wide = good .width e;
-      norths = λ i h. good .numbered north (suc i);
-      souths = λ i h. good .numbered south (suc i);
-      wests = λ j h. good .numbered west (suc j);
-      easts = λ j h. good .numbered east (suc j);
-      room = subst₂ (λ (u v : ℕ). n * u * v ≤ length wiring) (box-tracks e) (box-layers e) room;
-    }
-
-    pub box-laid : {before after : List ℕ} → kind ≡ box → Laid (boxGrid n byte2) p before after
-        → Laid (gridOf (laidAnswer t)) p before after
-    box-laid {before} {after} e y = laid-in (same-grid n (sym (box-tracks e)) (sym (box-layers e)) (sym (box-first e))) y
+      pub box-laid : kind ≡ box → Laid (boxGrid n w) p before after → Laid (laidGrid (laidAnswer q)) p before after
+      box-laid e y =
+          let b : w ≡ byte2 = same ∙ box-tracks e in
+          laid-in (same-grid n same (ap (boxLayers n) b ∙ sym (box-layers e)) (ap (ltb n) b ∙ sym (box-first e))) y
 
     -- ---- against every rival
 
-    grid : GridOf kind n byte2 (gridIn t)
-    grid = record { length = refl; width = λ e. refl; columns = good .columns .0; tracks = low; layers = omega arith }
+    pub flat : Thin kind → horizontals (laidGrid (laidAnswer q)) ≡ byte2
+    flat h = horizontals-are (laidGrid (laidAnswer q)) ∙ ap (λ (b : Bool). (layers + bit b) / 2) (thin-first h) ∙ half h refl
       where
-        low : 1 ≤ byte2
-        low = by-cases (ℕ-discrete kind box) (λ e. good .width e .0) (λ h. good .trunks h .0)
+        half : {k : ℕ} → Thin k → kind ≡ k → (layers + 0) / 2 ≡ byte2
+        half thin-row e = omega (arith, row-layers e)
+        half thin-channel e = omega (arith, channel-layers e)
 
-    -- the width of a row or a channel is not read
-    any-width : {w w′ : ℕ} {g : Grid} → kind ≢ box → GridOf kind n w g → GridOf kind n w′ g
-    any-width h d = record { length = d .length; width = λ e. absurd (h e); columns = d .columns; tracks = d .tracks; layers = d .layers }
-
-    pub flat : kind ≢ box → horizontals (gridOf (laidAnswer t)) ≡ byte2
-    flat h = horizontals-are (gridOf (laidAnswer t)) ∙ ap (λ (b : Bool). (layers + bit b) / 2) (thin-first h) ∙ by-cases (ℕ-discrete kind row)
-        (λ e. omega (arith, row-layers e)) (λ r. omega (arith, channel-layers (omega (arith, good .kinds, h, r))))
-
-    pub no-narrower : kind ≢ box → (g : Grid) (x : Wiring) → GridOf kind n tracks g → Legal g p x → horizontals g ≤ byte2 → tracks ≤ g .w
+    pub no-narrower : Thin kind → (g : Grid) (x : Wiring) → GridOf kind n tracks g → Legal g p x → horizontals g ≤ byte2 → tracks ≤ g .w
     no-narrower h g x d y few =
-        subst (λ (u : ℕ). u ≤ g .w) (sym (thin-tracks h)) (narrowest byte2 p grid (good .bare-west h) (good .bare-east h) .rivals g x (any-width h d) y few)
+        subst (λ (u : ℕ). u ≤ g .w) (sym (thin-tracks h))
+        (narrowest (shapeOf q) g byte2 p x (sym (d .length)) (d .tracks) (bare-west h) (bare-east h) y few)
 
-    pub no-lower : kind ≡ box → (g : Grid) (x : Wiring) → GridOf kind n tracks g → Legal g p x → figuresOf t .floor .0 ≤ g .k
-    no-lower e g x d y =
-        subst (λ (u : ℕ). u ≤ g .k) (sym (box-floor e)) (lowest p (of-box grid) .rivals g x (of-box (subst (λ (u : ℕ). GridOf kind n u g) (box-tracks e) d)) y)
+    pub no-lower : kind ≡ box → (g : Grid) (x : Wiring) → GridOf kind n tracks g → Legal g p x → figuresOf q .floor .0 ≤ g .k
+    no-lower e g x d y = subst (λ (u : ℕ). u ≤ g .k) (sym (box-floor e)) (lowest p x own rival y)
       where
-        of-box : {g : Grid} → GridOf kind n byte2 g → GridOf box n byte2 g
-        of-box {g} d = subst (λ (u : ℕ). GridOf u n byte2 g) e d
+        rival : GridOf box n byte2 g
+        rival = subst₂ (λ (k u : ℕ). GridOf k n u g) e (box-tracks e) d
+
+        own : GridOf box n byte2 (shapeOf q)
+        own = record {
+          length = refl;
+          width = λ z. box-width e;
+          columns = good .columns .0;
+          tracks = subst (λ (u : ℕ). 1 ≤ u) (sym (box-width e)) (width e .0);
+          layers = omega arith;
+        }

@@ -1,5 +1,1 @@
-pub mod Flags
-pub mod Sweep
-pub mod Across
-pub mod Bounds
 pub mod Lines

@@ -15,7 +15,8 @@ use Rattle.survey.specs.Line.{spelled, decimal, lineOf, longestLine, lin
 
 -- ---- additions
 
-pub adds-one : (line : Line) (b : ℕ) → line .used < length (line .bytes) → Adds line (b ∷ []) (record { bytes = set (line .bytes) (line .used) b; used = line .used + 1 })
+pub adds-one : (line : Line) (b : ℕ) → line .used < length (line .bytes) → Adds line (b ∷ [])
+    (record { bytes = set (line .bytes) (line .used) b; used = line .used + 1 })
 adds-one line b h = record { size = refl; bytes = rw add-one (take-suc-set (line .bytes) (line .used) b h) }
 
 pub adds-adds : {line next last : Line} {x y : List ℕ} → Adds line x next → Adds next y last → Adds line (x ++ y) last
@@ -74,7 +75,8 @@ pub copied-more : (s d : List ℕ) (i : ℕ) → i < length s → i < length d �
 copied-more s d i h k =
     ap (λ (l : List ℕ). set (take i s ++ l) i (getD s i 0)) (drop-cons d i 0 k)
     ∙ set-at (take i s) (getD d i 0) (drop (suc i) d) (getD s i 0) i (length-take-le i s (omega arith))
-    ∙ sym (ap₂ (λ (a b : List ℕ). a ++ b) (ap (λ (j : ℕ). take j s) (add-one i) ∙ take-suc s i 0 h) (ap (λ (j : ℕ). drop j d) (add-one i)) ∙ append-assoc (take i s) (getD s i 0 ∷ []) (drop (suc i) d))
+    ∙ sym (ap₂ (λ (a b : List ℕ). a ++ b) (ap (λ (j : ℕ). take j s) (add-one i) ∙ take-suc s i 0 h) (ap (λ (j : ℕ). drop j d) (add-one i)) ∙ append-assoc
+    (take i s) (getD s i 0 ∷ []) (drop (suc i) d))
 
 -- ---- what survey_line answers
 

@@ -4,9 +4,10 @@
 --   decimal x        "Other numbers are in base ten": its digits, with no zero in front
 --   spelled fuel x   the same, where x has no more digits than fuel
 --   field words x    words and then a number
+--   begins kind      the kind's word, and "length"
 --   boxLine a        "(n, w, distinct nets, across, up, layers Lay uses, floor)"
 --   trunkLine words a
---                    the line of a row or a channel, which begins with words; "row length 6 nets 3 across 2 tracks 2 layers 2"; "Channels print channel likewise"
+--                    the line of a row or a channel, which begins with words; "row length 6 nets 3 across 2 tracks 2 layers 2"
 --   refusedLine a    "refused 9 at 1"
 --   lineFor a, lineOf s
 --                    the line of an answer and of a ticket; "Each line ends in one newline"
@@ -21,9 +22,10 @@ use Prim.Native.String.{String, [] as end, _∷_ as _then_}
 use mathlib.Core.Path.{_≡_}
 use mathlib.Core.Bool.{cond}
 use mathlib.Core.List.{List, [], _∷_, _++_}
-use lib.Dec.{ltb, leb, eqb}
+use lib.Dec.{ltb, leb}
 use lib.ListN.{length, take, drop}
-use Rattle.grid.specs.Legal.{row, box}
+use Rattle.terms.specs.Kinds.{row, channel, box, byKind, word}
+use Rattle.terms.specs.Refusals.{accepted, unless}
 use Rattle.survey.specs.declared.SurveyAnswer.{SurveyAnswer}
 use Rattle.survey.specs.declared.Line.{Line}
 use Rattle.survey.specs.declared.LineAnswer.{LineAnswer}
@@ -43,24 +45,28 @@ decimal x = spelled (suc x) x
 abbrev pub field : String → ℕ → List ℕ
 field words x = text words ++ decimal x
 
+abbrev pub begins : ℕ → List ℕ
+begins kind = text (word kind) ++ text " length "
+
 abbrev pub boxLine : SurveyAnswer → List ℕ
 boxLine a =
-    field "box length " (a .n .0) ++ field " width " (a .w .0) ++ field " nets " (a .nets) ++ field " across " (a .across) ++ field " up " (a .up)
+    (begins box ++ decimal (a .n .0)) ++ field " width " (a .w .0) ++ field " nets " (a .nets) ++ field " across "
+    (a .across) ++ field " up " (a .up)
     ++ field " layers " (a .layers .0) ++ field " floor " (a .floor .0) ++ text "\n"
 
 abbrev pub trunkLine : List ℕ → SurveyAnswer → List ℕ
 trunkLine words a =
-    (words ++ decimal (a .n .0)) ++ field " nets " (a .nets) ++ field " across " (a .across) ++ field " tracks " (a .w .0) ++ field " layers " (a .layers .0)
+    (words ++ decimal (a .n .0)) ++ field " nets " (a .nets) ++ field " across " (a .across) ++ field " tracks "
+    (a .w .0) ++ field " layers " (a .layers .0)
     ++ text "\n"
 
 abbrev pub refusedLine : SurveyAnswer → List ℕ
-refusedLine a = field "refused " (a .number) ++ field " at " (a .place) ++ text "\n"
+refusedLine a = field "refused " (a .refusal .number) ++ field " at " (a .refusal .place) ++ text "\n"
 
 unfoldable pub lineFor : SurveyAnswer → List ℕ
 lineFor a =
-    cond (eqb (a .number) 0)
-    (cond (eqb (a .kind) box) (boxLine a) (cond (eqb (a .kind) row) (trunkLine (text "row length ") a) (trunkLine (text "channel length ") a)))
-    (refusedLine a)
+    unless (accepted (a .refusal)) (refusedLine a)
+    (byKind (a .kind) [] (trunkLine (begins row) a) (trunkLine (begins channel) a) (boxLine a))
 
 abbrev pub lineOf : List ℕ → List ℕ
 lineOf s = lineFor (surveyOf s)

@@ -3,6 +3,8 @@ use libc::STDIN_FILENO;
 use libc::STDOUT_FILENO;
 use survey::LONGEST_LINE;
 use survey::survey_line;
+ghost use Prim.Native.Nat.{_≤_};
+ghost use lib.ListN.{length};
 
 fn show(ticket: &[u8]) {
     let mut out = [0u8; LONGEST_LINE];
@@ -11,16 +13,29 @@ fn show(ticket: &[u8]) {
     io::write_all(STDOUT_FILENO, &out[..length]);
 }
 
+// Shows the record that starts at `at`, and answers where it ends: at `at` itself where it is not whole.
+fn one(s: &[u8], at: usize) -> usize
+    requires { ⌜ at ≤ length (now s) ⌝ }
+    ensures { λ r. ⌜ r ≤ length (now (s .entry)) ⌝ }
+{
+    let r = records::record_at(s, at, 0);
+    let from = r.from;
+    let end = r.end;
+    if end <= at {
+        return at;
+    }
+    show(&s[from..end]);
+    end
+}
+
 fn all(s: &[u8]) {
     let mut at = 0;
     loop {
-        let end = records::record_end(s, at);
-        if end < at + 2 {
+        let next = one(s, at);
+        if next <= at {
             return;
         }
-        let from = at + 2;
-        show(&s[from..end]);
-        at = end;
+        at = next;
     }
 }
 

@@ -8,7 +8,8 @@ use native.Mathlib.Nat.{mul-comm, mul-one, zero-mul, div-add-mod', mod-lt, div-l
 use lib.Dec.{ltb}
 use borrow.Author.Tests.{ltb-true, lt-ltb, eq-eqb, ne-eqb, eqb-true, eqb-false}
 use Rattle.counting.specs.Counting.{In, bit}
-use Rattle.grid.specs.Grid.{Grid, Side, north, south, west, east, Node, pin, point, places, Inside, Edge, along-column, along-track, via, north-pin, south-pin, west-pin, east-pin, Joined}
+use Rattle.terms.specs.Kinds.{Side, north, south, west, east}
+use Rattle.grid.specs.Grid.{Grid, Node, pin, point, places, Inside, Edge, along-column, along-track, via, north-pin, south-pin, west-pin, east-pin, Joined}
 use Rattle.grid.specs.Legal.{index}
 use Rattle.grid.proofs.Buffer.{index-is, index-once}
 use Rattle.sweep.specs.Marks.{Spot, a-pin, a-point}

@@ -9,7 +9,9 @@
 --   When is E          the edges E, or none
 --   Run start count gap    from each of count points from start on, to the point gap further
 --   Along, Layer, Points   within a layer at q, from a layer to the next too, and of all layers
---   pinAt s a          the place of pin a of side s in the pin list, which has 90 places for each of north, south, west and east, in this order
+--   southStart, westStart, eastStart, pinPlaces
+--                      where the places of these sides start in the pin list, in which those of north come first, and its length
+--   pinAt s a          the place of pin a of side s in the pin list
 --   PinRun first start gap count  from each of count pins from first on, to the points from start on in steps of gap
 --   Ends, Pins         from the pins that a layer at q touches, and from all pins
 --   Edges g            all edges
@@ -23,8 +25,9 @@ use mathlib.Core.Path.{_≡_}
 use mathlib.Core.Logic.{_⊎_}
 use mathlib.Core.List.{List}
 use lib.Dec.{ltb, eqb}
-use Rattle.grid.specs.Grid.{Grid, Side, north, south, west, east}
-use Rattle.grid.specs.Limits.{longestSide, mostLayers}
+use Rattle.terms.specs.Kinds.{Side, north, south, west, east}
+use Rattle.terms.specs.Limits.{longestSide, widestGrid, mostLayers}
+use Rattle.grid.specs.Grid.{Grid}
 use Rattle.counting.specs.Counting.{In}
 use Rattle.sweep.specs.Marks.{at, Spot, a-pin, a-point, Shut}
 use Rattle.sweep.specs.declared.Frame.{Frame}
@@ -66,19 +69,31 @@ LayerOf g l = Layer (l * (g .n * g .w)) (g .n) (g .w) (ltb (l + 1) (g .k)) (hori
 abbrev pub Points : Grid → ℕ → ℕ → Type 0
 Points g = Below (LayerOf g) (g .k)
 
+abbrev pub southStart : ℕ
+southStart = longestSide
+
+abbrev pub westStart : ℕ
+westStart = 2 * longestSide
+
+abbrev pub eastStart : ℕ
+eastStart = 2 * longestSide + widestGrid
+
+abbrev pub pinPlaces : ℕ
+pinPlaces = 2 * longestSide + 2 * widestGrid
+
 abbrev pub pinAt : Side → ℕ → ℕ
 pinAt north a = a - 1
-pinAt south a = 90 + (a - 1)
-pinAt west a = 180 + (a - 1)
-pinAt east a = 270 + (a - 1)
+pinAt south a = southStart + (a - 1)
+pinAt west a = westStart + (a - 1)
+pinAt east a = eastStart + (a - 1)
 
 abbrev pub PinRun : ℕ → ℕ → ℕ → ℕ → Spot → Spot → Type 0
 PinRun first start gap count = Below (λ t. Only (a-pin (first + t)) (a-point (start + t * gap))) count
 
 -- west and east of a horizontal layer; south and north of a vertical one
 abbrev pub Ends : ℕ → ℕ → ℕ → Bool → Spot → Spot → Type 0
-Ends q n w true a b = PinRun 180 q n w a b ⊎ PinRun 270 (q + (n - 1)) n w a b
-Ends q n w false a b = PinRun 90 q 1 n a b ⊎ PinRun 0 (q + (n * w - n)) 1 n a b
+Ends q n w true a b = PinRun westStart q n w a b ⊎ PinRun eastStart (q + (n - 1)) n w a b
+Ends q n w false a b = PinRun southStart q 1 n a b ⊎ PinRun 0 (q + (n * w - n)) 1 n a b
 
 abbrev pub EndsOf : Grid → ℕ → Spot → Spot → Type 0
 EndsOf g l = Ends (l * (g .n * g .w)) (g .n) (g .w) (horizontal (g .first) l)
@@ -106,7 +121,7 @@ pub record AllShut (x m : List ℕ) (start count gap r : ℕ) : Type 0 where
 
 pub record Shape (f : Frame) : Type 0 where
   pub long : In (f .n) longestSide
-  pub wide : In (f .w) longestSide
+  pub wide : In (f .w) widestGrid
   pub deep : In (f .k) mostLayers
 
 pub record PointsFit (f : Frame) (x m : ℕ) : Type 0 where
@@ -115,9 +130,9 @@ pub record PointsFit (f : Frame) (x m : ℕ) : Type 0 where
   pub marks : m ≡ x
 
 pub record SideFits (p s x m first start gap count : ℕ) : Type 0 where
-  pub pins : p ≡ 360
-  pub pin-marks : s ≡ 360
-  pub places : first + count ≤ 360
+  pub pins : p ≡ pinPlaces
+  pub pin-marks : s ≡ pinPlaces
+  pub places : first + count ≤ pinPlaces
   pub step : gap ≤ x
   pub last : start + count * gap < x + gap
   pub marks : x ≤ m
@@ -125,12 +140,12 @@ pub record SideFits (p s x m first start gap count : ℕ) : Type 0 where
 pub record EndsFit (p s x m q n w : ℕ) : Type 0 where
   pub long : In n longestSide
   pub wide : In w longestSide
-  pub pins : p ≡ 360
-  pub pin-marks : s ≡ 360
+  pub pins : p ≡ pinPlaces
+  pub pin-marks : s ≡ pinPlaces
   pub own : q + n * w ≤ x
   pub marks : x ≤ m
 
 pub record Fits (f : Frame) (p s x m : ℕ) : Type 0 where
-  pub pins : p ≡ 360
-  pub pin-marks : s ≡ 360
+  pub pins : p ≡ pinPlaces
+  pub pin-marks : s ≡ pinPlaces
   pub points : PointsFit f x m

@@ -1,5 +1,7 @@
 // Sweeps over the joins of a wiring: a sweep marks whatever is joined to what was marked before it, along edges between equal
-// numbers. Points and their marks stand in the buffer's order; the pins of the four sides, and their marks, in lists of 360.
+// numbers. Points and their marks stand in the buffer's order; the pins of the four sides, and their marks, in lists of PIN_PLACES.
+use terms::LONGEST_SIDE;
+use terms::WIDEST_GRID;
 ghost use mathlib.Core.Path.{_≡_};
 ghost use mathlib.Core.Bool.{true};
 ghost use mathlib.Core.Logic.{_⊎_};
@@ -7,6 +9,15 @@ ghost use Prim.Native.Nat.{ℕ, _+_, _*_, _-_, _≤_, _<_};
 ghost use lib.ListN.{length};
 ghost use Rattle.sweep.specs.Marks.{at, a-pin, a-point, val, one, two, Shut, Swept, Aged, Settled};
 ghost use Rattle.sweep.specs.Edges.{gridOf, horizontal, Only, When, Run, Rows, Layer, Points, PinRun, Ends, Pins, Edges, LayerFits, PointsFit, SideFits, EndsFit, Fits, AllShut};
+
+// Where the places of these sides start in the pin list, in which those of north come first, and its length.
+pub const SOUTH_START: usize = LONGEST_SIDE;
+
+pub const WEST_START: usize = 2 * LONGEST_SIDE;
+
+pub const EAST_START: usize = 2 * LONGEST_SIDE + WIDEST_GRID;
+
+pub const PIN_PLACES: usize = 2 * LONGEST_SIDE + 2 * WIDEST_GRID;
 
 // The grid's counts, and whether its first layer is horizontal.
 pub struct Frame {
@@ -234,11 +245,11 @@ fn ends(
     ensures { λ r. ⌜ Swept (val (now (p .entry)) (now (x .entry))) (two (now (s .entry)) (now (m .entry))) (two (now (s .exit)) (now (m .exit))) (Ends q n w flat) r ⌝ }
 {
     if flat {
-        let west = side(p, s, 180, x, m, q, n, w);
-        let east = side(p, s, 270, x, m, q + (n - 1), n, w);
+        let west = side(p, s, WEST_START, x, m, q, n, w);
+        let east = side(p, s, EAST_START, x, m, q + (n - 1), n, w);
         return west + east;
     }
-    let south = side(p, s, 90, x, m, q, 1, n);
+    let south = side(p, s, SOUTH_START, x, m, q, 1, n);
     let north = side(p, s, 0, x, m, q + (n * w - n), 1, n);
     south + north
 }

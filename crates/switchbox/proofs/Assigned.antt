@@ -1,4 +1,5 @@
--- The tables of a box whose nets on just north and east are the most numerous corner kind are fit for the assignment of lanes, and with these lanes the box is laid.
+-- The tables of a box whose nets on just north and east are the most numerous corner kind are fit for the assignment of lanes,
+-- and with these lanes the box is laid.
 use Prim.Native.Nat.{ℕ, zero, suc, _+_, _*_, _≤_, _<_}
 use mathlib.Core.Path.{_≡_, refl, sym, ap, subst, _∙_, fun-ext}
 use mathlib.Core.List.{List}
@@ -10,9 +11,9 @@ use lib.ListN.{length, take}
 use lib.Seq.{getD-take, length-take-le}
 use Rattle.counting.specs.Counting.{In, ceil}
 use Rattle.counting.proofs.Counts.{count-same, count-le, ceil-le, round-up}
-use Rattle.grid.specs.Grid.{Side, north, south, west, east}
-use Rattle.grid.specs.Legal.{topNet, entry, pinsOf}
-use Rattle.grid.specs.Limits.{longestSide}
+use Rattle.terms.specs.Kinds.{Side, north, south, west, east}
+use Rattle.terms.specs.Limits.{largestNet, longestSide}
+use Rattle.grid.specs.Legal.{entry, pinsOf}
 use Rattle.switchbox_law.specs.Rules.{Tally, tally, pair, alternate, wanted, needsTrack, diagonal, needsColumn}
 use Rattle.switchbox_law.specs.Drawing.{Lanes, BoxLaid}
 use Rattle.switchbox_law.proofs.Enough.{enough-tracks, enough-columns}
@@ -34,7 +35,7 @@ wanted-same first t t′ (suc k) h =
     rw (h (suc k) (omega arith), turn-same first (λ m. pair (t m)) (λ m. pair (t′ m)) k (λ j l. ap pair (h j (omega arith))))
 
 -- lanes by the same rule, and as entries of a list's first k
-lanes-same : {want want′ : ℕ → Bool} {own : ℕ → ℕ} {w k : ℕ} (s : List ℕ) → ((m : ℕ) → In m topNet → want m ≡ want′ m) → w ≤ k
+lanes-same : {want want′ : ℕ → Bool} {own : ℕ → ℕ} {w k : ℕ} (s : List ℕ) → ((m : ℕ) → In m largestNet → want m ≡ want′ m) → w ≤ k
     → Lanes want own w k (entry s) → Lanes want′ own w k (entry (take k s))
 lanes-same {want} {want′} {own} {w} {k} s same le d = record {
   got = λ m im e. let (i, ii, v) = d .got m im (same m im ∙ e) in (i, ii, here i ii ∙ v);
@@ -48,7 +49,7 @@ lanes-same {want} {want′} {own} {w} {k} s same le d = record {
     here (suc i) h = getD-take k s i 0 (omega arith)
 
 module _ {a b c d ca cb cc′ cd before : List ℕ} (box : Canonical a b c d ca cb cc′ cd before) where
-  north-counts : (m : ℕ) → m < 181 → tallies ca cb cc′ cd m ≡ tally (standing (length a) (length c)) (pinsOf a b c d) m
+  north-counts : (m : ℕ) → m < suc largestNet → tallies ca cb cc′ cd m ≡ tally (standing (length a) (length c)) (pinsOf a b c d) m
   north-counts m h = fun-ext go
     where
       go : (s : Side) → tallies ca cb cc′ cd m s ≡ tally (standing (length a) (length c)) (pinsOf a b c d) m s
@@ -57,7 +58,8 @@ module _ {a b c d ca cb cc′ cd before : List ℕ} (box : Canonical a b c d ca 
       go west = box .tables .wests .is m h
       go east = table-d (box .tables) m h
 
-  east-counts : (m : ℕ) → m < 181 → _≡_ {A = Tally} (tallies cd cc′ cb ca m) (λ s. tally (standing (length a) (length c)) (pinsOf a b c d) m (diagonal s))
+  east-counts : (m : ℕ) → m < suc largestNet
+      → _≡_ {A = Tally} (tallies cd cc′ cb ca m) (λ s. tally (standing (length a) (length c)) (pinsOf a b c d) m (diagonal s))
   east-counts m h = fun-ext go
     where
       go : (s : Side) → tallies cd cc′ cb ca m s ≡ tally (standing (length a) (length c)) (pinsOf a b c d) m (diagonal s)
@@ -66,10 +68,10 @@ module _ {a b c d ca cb cc′ cd before : List ℕ} (box : Canonical a b c d ca 
       go west = table-b (box .tables) m h
       go east = box .tables .norths .is m h
 
-  by-track : (m : ℕ) → In m topNet → wanted true (tallies ca cb cc′ cd) m ≡ needsTrack (tally (standing (length a) (length c)) (pinsOf a b c d)) m
+  by-track : (m : ℕ) → In m largestNet → wanted true (tallies ca cb cc′ cd) m ≡ needsTrack (tally (standing (length a) (length c)) (pinsOf a b c d)) m
   by-track m i = wanted-same true _ _ m (λ j l. north-counts j (omega arith))
 
-  by-column : (m : ℕ) → In m topNet → wanted false (tallies cd cc′ cb ca) m ≡ needsColumn (tally (standing (length a) (length c)) (pinsOf a b c d)) m
+  by-column : (m : ℕ) → In m largestNet → wanted false (tallies cd cc′ cb ca) m ≡ needsColumn (tally (standing (length a) (length c)) (pinsOf a b c d)) m
   by-column m i = wanted-same false _ _ m (λ j l. east-counts j (omega arith))
 
   lanes-fit : (length a ≤ ceil (length a) (length c) * length c) × (ceil (length a) (length c) * length c < length a + length c)
@@ -89,7 +91,7 @@ module _ {a b c d ca cb cc′ cd before : List ℕ} (box : Canonical a b c d ca 
       box .tables .sides .norths .short,
       box .tables .sides .souths .short,
     );
-    room = omega (arith, count-same _ _ topNet by-track, enough-tracks (standing (length a) (length c)) (pinsOf a b c d) (box .corner), lanes-fit);
+    room = omega (arith, count-same _ _ largestNet by-track, enough-tracks (standing (length a) (length c)) (pinsOf a b c d) (box .corner), lanes-fit);
   }
 
   pub columns-asked : Asked cd cc′ cb ca b (length a) false
@@ -106,7 +108,7 @@ module _ {a b c d ca cb cc′ cd before : List ℕ} (box : Canonical a b c d ca 
       box .tables .sides .wests .short,
       box .tables .sides .easts .short,
     );
-    room = omega (arith, count-same _ _ topNet by-column, enough-columns (standing (length a) (length c)) (pinsOf a b c d) (box .corner), box .oblong);
+    room = omega (arith, count-same _ _ largestNet by-column, enough-columns (standing (length a) (length c)) (pinsOf a b c d) (box .corner), box .oblong);
   }
 
   pub box-laid : (tracks columns : List ℕ)
@@ -122,7 +124,7 @@ module _ {a b c d ca cb cc′ cd before : List ℕ} (box : Canonical a b c d ca 
         (subst (λ (n : ℕ). Lanes (wanted false (tallies cd cc′ cb ca)) (entry b) n (length a) (entry columns)) (box .tables .sides .long) posts);
   }
 
-  pub drawable : (tracks columns : List ℕ) → length tracks ≡ 180 → length columns ≡ 180
+  pub drawable : (tracks columns : List ℕ) → length tracks ≡ 2 * longestSide → length columns ≡ 2 * longestSide
       → Drawable a b c d (take (ceil (length a) (length c) * length c) tracks) (take (length a) columns) (ceil (length a) (length c)) before
   drawable tracks columns lt lc = record {
     lined = record {

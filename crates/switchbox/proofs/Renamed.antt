@@ -9,7 +9,8 @@ use native.Mathlib.Decide.{decLe}
 use lib.ListN.{length}
 use Rattle.counting.specs.Counting.{In, ceil}
 use Rattle.counting.proofs.Counts.{round-up}
-use Rattle.grid.specs.Grid.{Side, north, south, west, east, places}
+use Rattle.terms.specs.Kinds.{Side, north, south, west, east}
+use Rattle.grid.specs.Grid.{places}
 use Rattle.grid.specs.Legal.{Pins, entry, pinsOf}
 use Rattle.grid.proofs.Pins.{Numbered}
 use Rattle.switchbox_law.specs.Drawing.{BoxLaid, Mirror, plain, leftRight, topBottom, both}
@@ -123,7 +124,8 @@ module _ {a b c d before : List ℕ} (up : Upright a b c d before) (μ : Mirror)
       (by a b c d (seen μ north)) (by a b c d (seen μ south)) (by a b c d (seen μ west)) (by a b c d (seen μ east)) before after
       → Wired turned a b c d before after
   wired-renamed {turned} {after} l =
-      go (subst₂ (λ (x y : ℕ). LaidAs turned x y (by a b c d (seen μ north)) (by a b c d (seen μ south)) (by a b c d (seen μ west)) (by a b c d (seen μ east)) before after)
+      go (subst₂ (λ (x y : ℕ).
+      LaidAs turned x y (by a b c d (seen μ north)) (by a b c d (seen μ south)) (by a b c d (seen μ west)) (by a b c d (seen μ east)) before after)
       (long-by (up .sides) μ .0) (wide-by (up .sides) μ .0) l)
     where
       some-layer : 1 ≤ ceil (length a) (length c)
@@ -133,11 +135,13 @@ module _ {a b c d before : List ℕ} (up : Upright a b c d before) (μ : Mirror)
             absurd (omega (arith, round-up (length a) (length c) (up .narrow), ap (λ (v : ℕ). v * length c) z, up .narrow, up .oblong))
       ]
 
-      go : LaidAs turned (length a) (length c) (by a b c d (seen μ north)) (by a b c d (seen μ south)) (by a b c d (seen μ west)) (by a b c d (seen μ east)) before after
+      go : LaidAs turned (length a) (length c) (by a b c d (seen μ north)) (by a b c d (seen μ south)) (by a b c d (seen μ west))
+          (by a b c d (seen μ east)) before after
           → Wired turned a b c d before after
       go l = record {
         wiring = l .wiring;
         legal = renamed-legal (omega (arith, up .narrow, up .oblong)) (up .narrow) some-layer (numbered (up .sides)) μ
-            (subst (λ (p : Pins). BoxLaid (length a) (length c) (ceil (length a) (length c)) p (l .wiring) (l .tracks) (l .columns)) (pins-renamed a b c d μ) (l .laid));
+            (subst (λ (p : Pins). BoxLaid (length a) (length c) (ceil (length a) (length c)) p (l .wiring) (l .tracks) (l .columns))
+            (pins-renamed a b c d μ) (l .laid));
         drawn = l .drawn;
       }

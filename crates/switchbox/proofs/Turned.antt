@@ -10,13 +10,14 @@ use lib.Seq.{getD-take, length-take-le}
 use lib.Dec.{ltb}
 use borrow.Author.Tests.{lt-ltb, le-ltb}
 use Rattle.counting.specs.Counting.{In, ceil}
-use Rattle.grid.specs.Grid.{upright, lying, Side, north, south, west, east, Node, pin, point, places, Inside}
-use Rattle.grid.specs.Legal.{Wiring, holds, Legal, topNet, entry, wiringOf, pinsOf}
-use Rattle.grid.specs.Limits.{longestSide}
+use Rattle.terms.specs.Kinds.{Side, north, south, west, east}
+use Rattle.terms.specs.Limits.{largestNet, longestSide}
+use Rattle.grid.specs.Grid.{upright, lying, Node, pin, point, places, Inside}
+use Rattle.grid.specs.Legal.{Wiring, holds, Legal, entry, wiringOf, pinsOf}
 use Rattle.grid.proofs.Motion.{turn, movedPins}
 use Rattle.grid.proofs.Motions.{legal-same, moved-back, turn-over, turn-back}
 use Rattle.paint.specs.Paint.{Drawn}
-use Rattle.paint.specs.Laid.{Laid}
+use Rattle.grid.specs.Laid.{Laid}
 use Rattle.paint.proofs.Laws.{drawn-wiring}
 use Rattle.lanes.specs.Tables.{Nets}
 use Rattle.switchbox.specs.Box.{standing, Upright}
@@ -27,7 +28,7 @@ entry-take : (n : ℕ) (xs : List ℕ) (i : ℕ) → In i n → entry (take n xs
 entry-take n xs zero h = absurd (omega arith)
 entry-take n xs (suc i) h = getD-take n xs i 0 (omega arith)
 
-nets-take : (n : ℕ) (xs : List ℕ) → n ≤ longestSide → n ≤ length xs → ((i : ℕ) → i < n → getD xs i 0 ≤ topNet) → Nets (take n xs)
+nets-take : (n : ℕ) (xs : List ℕ) → n ≤ longestSide → n ≤ length xs → ((i : ℕ) → i < n → getD xs i 0 ≤ largestNet) → Nets (take n xs)
 nets-take n xs short long small =
     let e : length (take n xs) ≡ n = length-take-le n xs long in
     record { short = omega arith; small = λ i h. omega (arith, getD-take n xs i 0 (omega arith), small i (omega arith)) }
@@ -56,7 +57,8 @@ layers-wide n w h =
 sized : {a b c d before after : List ℕ} {n w : ℕ} (turned : Bool) → length a ≡ n → length c ≡ w → (l : Wired turned a b c d before after)
     → Legal (standing n w) (pinsOf a b c d) (l .wiring) × DrawnAs turned n w before after (2 * ceil n w + 4) (l .wiring)
 sized {a} {b} {c} {d} {before} {after} turned en ew l =
-    subst₂ (λ (x y : ℕ). Legal (standing x y) (pinsOf a b c d) (l .wiring) × DrawnAs turned x y before after (2 * ceil x y + 4) (l .wiring)) en ew (l .legal, l .drawn)
+    subst₂ (λ (x y : ℕ). Legal (standing x y) (pinsOf a b c d) (l .wiring) × DrawnAs turned x y before after (2 * ceil x y + 4) (l .wiring)) en ew
+    (l .legal, l .drawn)
 
 -- a drawing whose wiring is legal for the pins of the sides
 wired-as : (first : Bool) (ns ss ws es : List ℕ) (n w : ℕ) {before after : List ℕ} {k : ℕ} {x : Wiring} → boxLayers n w ≡ k → ltb n w ≡ first
@@ -69,7 +71,8 @@ wired-as first ns ss ws es n w {before} {after} {k} {x} layers dir legal d = rec
 }
   where
     seen : (u : Node) → Inside (record { n = n; w = w; k = k; first = first }) u
-        → holds (pinsOf ns ss ws es) (wiringOf (record { n = n; w = w; k = k; first = first }) after) u ≡ holds (pinsOf (take n ns) (take n ss) (take w ws) (take w es)) x u
+        → holds (pinsOf ns ss ws es) (wiringOf (record { n = n; w = w; k = k; first = first }) after) u
+        ≡ holds (pinsOf (take n ns) (take n ss) (take w ws) (take w es)) x u
     seen (pin north i) h = pins-take n w ns ss ws es north i h
     seen (pin south i) h = pins-take n w ns ss ws es south i h
     seen (pin west i) h = pins-take n w ns ss ws es west i h
@@ -118,17 +121,20 @@ module _ {ns ss ws es before : List ℕ} {n w : ℕ} (box : BoxPins ns ss ws es 
     room = rw (long-e, long-s, ← layers-wide n w h, mul-comm (boxLayers n w) (w * n), mul-comm w n) (box .room);
   }
 
-  pub upright-wired : {after : List ℕ} → w ≤ n → Wired false (take n ns) (take n ss) (take w ws) (take w es) before after → Laid (boxGrid n w) (pinsOf ns ss ws es) before after
+  pub upright-wired : {after : List ℕ} → w ≤ n → Wired false (take n ns) (take n ss) (take w ws) (take w es) before after
+      → Laid (boxGrid n w) (pinsOf ns ss ws es) before after
   upright-wired {after} h l =
       let (legal, d) = sized false long-n long-w l in
       wired-as false ns ss ws es n w (layers-long n w h) (le-ltb n w h) legal (d .is)
 
-  pub turned-wired : {after : List ℕ} → n < w → Wired true (take w es) (take w ws) (take n ss) (take n ns) before after → Laid (boxGrid n w) (pinsOf ns ss ws es) before after
+  pub turned-wired : {after : List ℕ} → n < w → Wired true (take w es) (take w ws) (take n ss) (take n ns) before after
+      → Laid (boxGrid n w) (pinsOf ns ss ws es) before after
   turned-wired {after} h l =
       let (legal, d) = sized true long-e long-s l in
       let g = lying n w (2 * ceil w n + 4) in
       let p = pinsOf (take n ns) (take n ss) (take w ws) (take w es) in
-      wired-as true ns ss ws es n w (layers-wide n w h) (lt-ltb n w h) (moved-back (turn-over g) (turn-back g) p (l .wiring) (legal-same same legal)) (d .is)
+      wired-as true ns ss ws es n w (layers-wide n w h) (lt-ltb n w h) (moved-back (turn-over g) (turn-back g) p (l .wiring) (legal-same same legal))
+      (d .is)
     where
       same : (u : Node) → Inside (standing w n) u
           → holds (movedPins turn (pinsOf (take n ns) (take n ss) (take w ws) (take w es))) (l .wiring) u

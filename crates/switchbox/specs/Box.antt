@@ -15,7 +15,8 @@ use mathlib.Core.Bool.{Bool, _&&_}
 use lib.Dec.{ltb, eqb}
 use lib.ListN.{length, getD}
 use Rattle.counting.specs.Counting.{ceil}
-use Rattle.grid.specs.Grid.{Grid, upright, north, south, west, east}
+use Rattle.terms.specs.Kinds.{north, south, west, east}
+use Rattle.grid.specs.Grid.{Grid, upright}
 use Rattle.grid.specs.Legal.{pinsOf}
 use Rattle.switchbox_law.specs.Rules.{corners, MostNorthEast}
 use Rattle.switchbox_law.specs.Drawing.{Mirror, plain, leftRight, topBottom, both, Top}

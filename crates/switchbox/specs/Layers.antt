@@ -1,6 +1,7 @@
--- Layers of a box in the buffer, seen upright: where the box was turned its columns are the buffer's tracks. No promise of a public call cites this.
+-- Layers of a box in the buffer, seen upright: where the box was turned its columns are the buffer's tracks.
+-- No promise of a public call cites this.
 --
---   PaintedAs turned before after from n w f   the layer that starts at `from` holds f i j in column i and track j, counted from 0, and every other byte is as it was
+--   StripedAs turned before after n w f        the layer's part holds f i j in column i and track j, counted from 0
 --   DrawnAs turned n w before after top x      layers 1 to top hold the wiring x, and every byte past them is as it was
 --   trackLines w q a b tracks                  the wiring of the combs of the sides a, north, and b, south, and of the tracks
 --   Lined a b tracks w q wiring                these have the sizes for it, and the buffer is long enough for 2q layers
@@ -14,23 +15,23 @@ use mathlib.Core.List.{List, []}
 use mathlib.Core.Bool.{Bool, true, false}
 use lib.ListN.{length}
 use Rattle.grid.specs.Legal.{Wiring, Legal, entry, pinsOf}
-use Rattle.grid.specs.Limits.{longestSide}
+use Rattle.terms.specs.Limits.{longestSide}
 use Rattle.counting.specs.Counting.{ceil}
 use Rattle.switchbox_law.specs.Drawing.{BoxLaid}
 use Rattle.switchbox_law.proofs.FullLines.{fullLines}
 use Rattle.switchbox.specs.Box.{standing}
-use Rattle.paint.specs.Paint.{Painted, Drawn}
+use Rattle.paint.specs.Paint.{Striped, Drawn}
 
-abbrev pub paintedAs : Bool → List ℕ → List ℕ → ℕ → ℕ → ℕ → (ℕ → ℕ → ℕ) → Type 0
-paintedAs false before after from n w f = Painted before after from n w f
-paintedAs true before after from n w f = Painted before after from w n (λ i j. f j i)
+abbrev pub stripedAs : Bool → List ℕ → List ℕ → ℕ → ℕ → (ℕ → ℕ → ℕ) → Type 0
+stripedAs false before after n w f = Striped before after n w f
+stripedAs true before after n w f = Striped before after w n (λ i j. f j i)
 
 abbrev pub drawnAs : Bool → ℕ → ℕ → List ℕ → List ℕ → ℕ → Wiring → Type 0
 drawnAs false n w before after top x = Drawn n w before after top x
 drawnAs true n w before after top x = Drawn w n before after top (λ i j l. x j i l)
 
-pub record PaintedAs (turned : Bool) (before after : List ℕ) (from n w : ℕ) (f : ℕ → ℕ → ℕ) : Type 0 where
-  pub is : paintedAs turned before after from n w f
+pub record StripedAs (turned : Bool) (before after : List ℕ) (n w : ℕ) (f : ℕ → ℕ → ℕ) : Type 0 where
+  pub is : stripedAs turned before after n w f
 
 pub record DrawnAs (turned : Bool) (n w : ℕ) (before after : List ℕ) (top : ℕ) (x : Wiring) : Type 0 where
   pub is : drawnAs turned n w before after top x

@@ -9,8 +9,7 @@ use lib.Dec.{ltb}
 use lib.ListN.{length, getD}
 use Rattle.counting.specs.Counting.{In, ceil}
 use Rattle.grid.specs.Grid.{Grid}
-use Rattle.grid.specs.Legal.{topNet}
-use Rattle.grid.specs.Limits.{longestSide}
+use Rattle.terms.specs.Limits.{largestNet, longestSide}
 
 abbrev pub boxLayers : ℕ → ℕ → ℕ
 boxLayers n w = 2 * ceil (max n w) (min n w) + 4
@@ -21,8 +20,8 @@ boxGrid n w = record { n = n; w = w; k = boxLayers n w; first = ltb n w }
 pub record BoxPins (north south west east : List ℕ) (n w : ℕ) (wiring : List ℕ) : Type 0 where
   pub long : In n longestSide
   pub wide : In w longestSide
-  pub norths : (i : ℕ) → i < n → getD north i 0 ≤ topNet
-  pub souths : (i : ℕ) → i < n → getD south i 0 ≤ topNet
-  pub wests : (j : ℕ) → j < w → getD west j 0 ≤ topNet
-  pub easts : (j : ℕ) → j < w → getD east j 0 ≤ topNet
+  pub norths : (i : ℕ) → i < n → getD north i 0 ≤ largestNet
+  pub souths : (i : ℕ) → i < n → getD south i 0 ≤ largestNet
+  pub wests : (j : ℕ) → j < w → getD west j 0 ≤ largestNet
+  pub easts : (j : ℕ) → j < w → getD east j 0 ≤ largestNet
   pub room : n * w * boxLayers n w ≤ length wiring

@@ -5,19 +5,33 @@ ghost use mathlib.Core.Bool.{cond};
 ghost use Prim.Native.Nat.{_+_, _*_, _≤_};
 ghost use lib.ListN.{length, getD};
 ghost use Rattle.grid.specs.Legal.{nets, pinsOf};
-ghost use Rattle.paint.specs.Laid.{Laid};
+ghost use Rattle.grid.specs.Laid.{Laid};
 ghost use Rattle.switchbox_law.specs.Drawing.{Top};
 ghost use Rattle.switchbox.specs.Box.{cornerAt, mirrorOf, Upright, Canonical};
 ghost use Rattle.switchbox.specs.Wired.{boxGrid, BoxPins};
-ghost use Rattle.switchbox.specs.Layers.{PaintedAs, DrawnAs, Lined, trackLines, Drawable, boxLines, LaidAs, Wired};
+ghost use Rattle.switchbox.specs.Layers.{StripedAs, DrawnAs, Lined, trackLines, Drawable, boxLines, LaidAs, Wired};
+use grid::Column;
+use grid::Track;
+use grid::column_count;
+use grid::is_turned;
+use grid::track_count;
+use terms::LARGEST_NET;
+use terms::LONGEST_SIDE;
+use terms::NET_ENTRIES;
+use terms::rounded_up;
 
 // How many nets are on just two sides that meet; a and b are the counts there, c and d those across.
-fn count_corner(a: &[u8; 181], b: &[u8; 181], c: &[u8; 181], d: &[u8; 181]) -> u8
+fn count_corner(
+    a: &[u8; NET_ENTRIES],
+    b: &[u8; NET_ENTRIES],
+    c: &[u8; NET_ENTRIES],
+    d: &[u8; NET_ENTRIES],
+) -> u8
     ensures { λ r. ⌜ r ≡ nets (cornerAt (now (a .entry)) (now (b .entry)) (now (c .entry)) (now (d .entry))) ⌝ }
 {
     let mut found: u8 = 0;
     let mut k: usize = 0;
-    while k < 180 {
+    while k < LARGEST_NET {
         k += 1;
         if lanes::is_corner(a[k], b[k], c[k], d[k]) {
             found += 1;
@@ -46,7 +60,12 @@ fn best_mirror(ne: u8, nw: u8, se: u8, sw: u8) -> u8
 }
 
 // The same by the counts of north, south, west and east.
-fn mirror_by(a: &[u8; 181], b: &[u8; 181], c: &[u8; 181], d: &[u8; 181]) -> u8
+fn mirror_by(
+    a: &[u8; NET_ENTRIES],
+    b: &[u8; NET_ENTRIES],
+    c: &[u8; NET_ENTRIES],
+    d: &[u8; NET_ENTRIES],
+) -> u8
     ensures { λ r. ⌜ Top (nets (cornerAt (now (a .entry)) (now (d .entry)) (now (b .entry)) (now (c .entry))))
         (nets (cornerAt (now (a .entry)) (now (c .entry)) (now (b .entry)) (now (d .entry))))
         (nets (cornerAt (now (b .entry)) (now (d .entry)) (now (a .entry)) (now (c .entry))))
@@ -59,48 +78,43 @@ fn mirror_by(a: &[u8; 181], b: &[u8; 181], c: &[u8; 181], d: &[u8; 181]) -> u8
     best_mirror(ne, nw, se, sw)
 }
 
-// A layer from byte `from` on, each line from south to north one value: as many lines as there are values, of length w.
-fn paint_up(wiring: &mut [u8], from: usize, values: &[u8], w: usize, turned: bool)
-    requires { ⌜ from + length (now values) * w ≤ length (now wiring) ⌝ }
-    ensures { λ _. ⌜ PaintedAs turned (now (wiring .entry)) (now (wiring .exit)) from (length (now (values .entry))) w (λ i j. getD (now (values .entry)) i 0) ⌝ }
+// A layer, whose bytes the part is, with each line from south to north one value: as many lines as there are values, of length w.
+fn paint_up(part: &mut [u8], values: &[u8], w: usize, turned: bool)
+    requires { ⌜ length (now part) ≡ length (now values) * w ⌝ }
+    ensures { λ _. ⌜ StripedAs turned (now (part .entry)) (now (part .exit)) (length (now (values .entry))) w
+        (λ i j. getD (now (values .entry)) i 0) ⌝ }
 {
     if turned {
-        paint::paint_tracks(wiring, from, values, w);
+        paint::tracks(part, values, w);
         return;
     }
-    paint::paint_columns(wiring, from, values, w);
+    paint::columns(part, values, w);
 }
 
 // The same with each line from west to east one value, of length n.
-fn paint_across(wiring: &mut [u8], from: usize, values: &[u8], n: usize, turned: bool)
-    requires { ⌜ from + n * length (now values) ≤ length (now wiring) ⌝ }
-    ensures { λ _. ⌜ PaintedAs turned (now (wiring .entry)) (now (wiring .exit)) from n (length (now (values .entry))) (λ i j. getD (now (values .entry)) j 0) ⌝ }
+fn paint_across(part: &mut [u8], values: &[u8], n: usize, turned: bool)
+    requires { ⌜ length (now part) ≡ n * length (now values) ⌝ }
+    ensures { λ _. ⌜ StripedAs turned (now (part .entry)) (now (part .exit)) n (length (now (values .entry)))
+        (λ i j. getD (now (values .entry)) j 0) ⌝ }
 {
     if turned {
-        paint::paint_columns(wiring, from, values, n);
+        paint::columns(part, values, n);
         return;
     }
-    paint::paint_tracks(wiring, from, values, n);
+    paint::tracks(part, values, n);
 }
 
 // The comb of a side: that of north, where `north`, or that of south.
-fn paint_comb(
-    wiring: &mut [u8],
-    from: usize,
-    a: &[u8],
-    b: &[u8],
-    north: bool,
-    w: usize,
-    turned: bool,
-)
-    requires { ⌜ (length (now b) ≡ length (now a)) × (from + length (now a) * w ≤ length (now wiring)) ⌝ }
-    ensures { λ _. ⌜ PaintedAs turned (now (wiring .entry)) (now (wiring .exit)) from (length (now (a .entry))) w (λ i j. getD (cond north (now (a .entry)) (now (b .entry))) i 0) ⌝ }
+fn paint_comb(part: &mut [u8], a: &[u8], b: &[u8], north: bool, w: usize, turned: bool)
+    requires { ⌜ (length (now b) ≡ length (now a)) × (length (now part) ≡ length (now a) * w) ⌝ }
+    ensures { λ _. ⌜ StripedAs turned (now (part .entry)) (now (part .exit)) (length (now (a .entry))) w
+        (λ i j. getD (cond north (now (a .entry)) (now (b .entry))) i 0) ⌝ }
 {
     if north {
-        paint_up(wiring, from, a, w, turned);
+        paint_up(part, a, w, turned);
         return;
     }
-    paint_up(wiring, from, b, w, turned);
+    paint_up(part, b, w, turned);
 }
 
 // Layers 1 to 2q: the q track layers, each above a comb. Of the sides, a is north and b is south.
@@ -114,7 +128,8 @@ fn track_layers(
     wiring: &mut [u8],
 )
     requires { ⌜ Lined (now a) (now b) (now tracks) w q (now wiring) ⌝ }
-    ensures { λ _. ⌜ DrawnAs turned (length (now (a .entry))) w (now (wiring .entry)) (now (wiring .exit)) (2 * q) (trackLines w q (now (a .entry)) (now (b .entry)) (now (tracks .entry))) ⌝ }
+    ensures { λ _. ⌜ DrawnAs turned (length (now (a .entry))) w (now (wiring .entry)) (now (wiring .exit)) (2 * q)
+        (trackLines w q (now (a .entry)) (now (b .entry)) (now (tracks .entry))) ⌝ }
 {
     let n = a.len();
     let size = n * w;
@@ -122,17 +137,19 @@ fn track_layers(
     let mut start: usize = 0;
     let mut t: usize = 0;
     while t < q {
-        paint_comb(wiring, from, a, b, (t + q) % 2 == 0, w, turned);
-        from += size;
+        let middle = from + size;
+        paint_comb(&mut wiring[from..middle], a, b, (t + q) % 2 == 0, w, turned);
+        let to = middle + size;
         let end = start + w;
-        paint_across(wiring, from, &tracks[start..end], n, turned);
-        from += size;
+        paint_across(&mut wiring[middle..to], &tracks[start..end], n, turned);
+        from = to;
         start = end;
         t += 1;
     }
 }
 
-// The whole box, 2q + 4 layers: above the track layers the last north comb, the east comb, the column layer and the west comb.
+// The whole box, 2q + 4 layers: above the track layers the last north comb, the east comb, the column layer and the west comb,
+// each in the part of the wiring that starts at the byte of its name.
 fn draw(
     a: &[u8],
     b: &[u8],
@@ -145,18 +162,23 @@ fn draw(
     wiring: &mut [u8],
 )
     requires { ⌜ Drawable (now a) (now b) (now c) (now d) (now tracks) (now columns) q (now wiring) ⌝ }
-    ensures { λ _. ⌜ DrawnAs turned (length (now (a .entry))) (length (now (c .entry))) (now (wiring .entry)) (now (wiring .exit)) (2 * q + 4)
-        (boxLines q (now (a .entry)) (now (b .entry)) (now (c .entry)) (now (d .entry)) (now (tracks .entry)) (now (columns .entry))) ⌝ }
+    ensures { λ _. ⌜ DrawnAs turned (length (now (a .entry))) (length (now (c .entry)))
+        (now (wiring .entry)) (now (wiring .exit)) (2 * q + 4)
+        (boxLines q (now (a .entry)) (now (b .entry)) (now (c .entry)) (now (d .entry)) (now (tracks .entry))
+        (now (columns .entry))) ⌝ }
 {
     let n = a.len();
     let w = c.len();
     let size = n * w;
-    let from = 2 * q * size;
+    let north_comb = 2 * q * size;
+    let east_comb = north_comb + size;
+    let column_layer = east_comb + size;
+    let west_comb = column_layer + size;
     track_layers(a, b, tracks, w, q, turned, wiring);
-    paint_up(wiring, from, a, w, turned);
-    paint_across(wiring, from + size, d, n, turned);
-    paint_up(wiring, from + 2 * size, columns, w, turned);
-    paint_across(wiring, from + 3 * size, c, n, turned);
+    paint_up(&mut wiring[north_comb..east_comb], a, w, turned);
+    paint_across(&mut wiring[east_comb..column_layer], d, n, turned);
+    paint_up(&mut wiring[column_layer..west_comb], columns, w, turned);
+    paint_across(&mut wiring[west_comb..west_comb + size], c, n, turned);
 }
 
 // A box with n ≥ w in which the nets on just north and east are the most numerous corner kind; ca to cd are the counts of its
@@ -166,19 +188,20 @@ fn lay_canonical(
     b: &[u8],
     c: &[u8],
     d: &[u8],
-    ca: &[u8; 181],
-    cb: &[u8; 181],
-    cc: &[u8; 181],
-    cd: &[u8; 181],
+    ca: &[u8; NET_ENTRIES],
+    cb: &[u8; NET_ENTRIES],
+    cc: &[u8; NET_ENTRIES],
+    cd: &[u8; NET_ENTRIES],
     turned: bool,
     wiring: &mut [u8],
 )
     requires { ⌜ Canonical (now a) (now b) (now c) (now d) (now ca) (now cb) (now cc) (now cd) (now wiring) ⌝ }
-    ensures { λ _. ⌜ LaidAs turned (length (now (a .entry))) (length (now (c .entry))) (now (a .entry)) (now (b .entry)) (now (c .entry)) (now (d .entry)) (now (wiring .entry)) (now (wiring .exit)) ⌝ }
+    ensures { λ _. ⌜ LaidAs turned (length (now (a .entry))) (length (now (c .entry)))
+        (now (a .entry)) (now (b .entry)) (now (c .entry)) (now (d .entry)) (now (wiring .entry)) (now (wiring .exit)) ⌝ }
 {
     let n = a.len();
     let w = c.len();
-    let q = (n + (w - 1)) / w;
+    let q = rounded_up(n, w);
     let top = q * w;
     let tracks = lanes::lanes(ca, cb, cc, cd, c, top, true);
     let columns = lanes::lanes(cd, cc, cb, ca, b, n, false);
@@ -189,7 +212,8 @@ fn lay_canonical(
 // numerous corner kind. Renamed sides stand for the mirrored box: every line is drawn from end to end.
 fn lay_upright(a: &[u8], b: &[u8], c: &[u8], d: &[u8], turned: bool, wiring: &mut [u8])
     requires { ⌜ Upright (now a) (now b) (now c) (now d) (now wiring) ⌝ }
-    ensures { λ _. ⌜ Wired turned (now (a .entry)) (now (b .entry)) (now (c .entry)) (now (d .entry)) (now (wiring .entry)) (now (wiring .exit)) ⌝ }
+    ensures { λ _. ⌜ Wired turned (now (a .entry)) (now (b .entry)) (now (c .entry)) (now (d .entry))
+        (now (wiring .entry)) (now (wiring .exit)) ⌝ }
 {
     let ca = lanes::count_side(a);
     let cb = lanes::count_side(b);
@@ -214,24 +238,35 @@ fn lay_upright(a: &[u8], b: &[u8], c: &[u8], d: &[u8], turned: bool, wiring: &mu
 // Lays a box into the wiring: north and south are the nets at columns 1 to n, west and east those at tracks 1 to w. Where
 // n < w it is turned: north with east, south with west. (For our own crates.)
 pub fn lay_box(
-    north: &[u8; 90],
-    south: &[u8; 90],
-    west: &[u8; 90],
-    east: &[u8; 90],
-    n: usize,
-    w: usize,
+    north: &[u8; LONGEST_SIDE],
+    south: &[u8; LONGEST_SIDE],
+    west: &[u8; LONGEST_SIDE],
+    east: &[u8; LONGEST_SIDE],
+    n: Column,
+    w: Track,
     wiring: &mut [u8],
 )
-    requires { ⌜ BoxPins (now north) (now south) (now west) (now east) n w (now wiring) ⌝ }
-    ensures { λ _. ⌜ Laid (boxGrid n w) (pinsOf (now (north .entry)) (now (south .entry)) (now (west .entry)) (now (east .entry))) (now (wiring .entry)) (now (wiring .exit)) ⌝ }
+    requires { ⌜ BoxPins (now north) (now south) (now west) (now east) (n .0) (w .0) (now wiring) ⌝ }
+    ensures { λ _. ⌜ Laid (boxGrid (n .0) (w .0))
+        (pinsOf (now (north .entry)) (now (south .entry)) (now (west .entry)) (now (east .entry)))
+        (now (wiring .entry)) (now (wiring .exit)) ⌝ }
 {
+    let long = column_count(n);
+    let wide = track_count(w);
     let a = &north[..];
     let b = &south[..];
     let c = &west[..];
     let d = &east[..];
-    if n < w {
-        lay_upright(&d[..w], &c[..w], &b[..n], &a[..n], true, wiring);
+    if is_turned(n, w) {
+        lay_upright(&d[..wide], &c[..wide], &b[..long], &a[..long], true, wiring);
         return;
     }
-    lay_upright(&a[..n], &b[..n], &c[..w], &d[..w], false, wiring);
+    lay_upright(
+        &a[..long],
+        &b[..long],
+        &c[..wide],
+        &d[..wide],
+        false,
+        wiring,
+    );
 }

@@ -5,7 +5,7 @@ use mathlib.Core.Bool.{cond}
 use native.Mathlib.Omega.{arith}
 use lib.Dec.{eqb, leb}
 use borrow.Author.Tests.{eq-eqb, ne-eqb, le-leb, lt-leb}
-use Rattle.grid.specs.Grid.{north, south, west, east}
+use Rattle.terms.specs.Kinds.{north, south, west, east}
 use Rattle.grid.specs.Legal.{Pins, Wiring}
 use Rattle.switchbox_law.specs.Drawing.{BoxDrawing}
 
@@ -22,6 +22,16 @@ drawn n w q p tracks columns = record {
   souths = λ i j l hi hj hl v. rw (le-leb l (2 * q + 1) (hl .1), ne-eqb (l % 2) 0 (λ e. omega arith), ne-eqb ((l + 2 * q) % 4) 1 (λ e. omega arith));
   rows = λ i j l hi hj hl v. rw (le-leb l (2 * q + 1) (omega arith), eq-eqb (l % 2) 0 v);
   easts = λ i j hi hj. rw (lt-leb (2 * q + 2) (2 * q + 1) (omega arith), eq-eqb (2 * q + 2) (2 * q + 2) refl);
-  posts = λ i j hi hj. rw (lt-leb (2 * q + 3) (2 * q + 1) (omega arith), ne-eqb (2 * q + 3) (2 * q + 2) (λ e. omega arith), eq-eqb (2 * q + 3) (2 * q + 3) refl);
-  wests = λ i j hi hj. rw (lt-leb (2 * q + 4) (2 * q + 1) (omega arith), ne-eqb (2 * q + 4) (2 * q + 2) (λ e. omega arith), ne-eqb (2 * q + 4) (2 * q + 3) (λ e. omega arith));
+  posts = λ i j hi hj. rw (
+    lt-leb (2 * q + 3) (2 * q + 1) (omega arith),
+    ne-eqb (2 * q + 3) (2 * q + 2) (λ e. omega arith),
+    eq-eqb (2 * q + 3)
+        (2 * q + 3) refl,
+  );
+  wests = λ i j hi hj. rw (
+    lt-leb (2 * q + 4) (2 * q + 1) (omega arith),
+    ne-eqb (2 * q + 4) (2 * q + 2) (λ e. omega arith),
+    ne-eqb (2 * q + 4) (2 * q + 3)
+        (λ e. omega arith),
+  );
 }

@@ -7,7 +7,8 @@ use native.Mathlib.Omega.{arith}
 use native.Mathlib.Nat.{div-add-mod', mod-lt, div-lt-iff-lt-mul, mul-le-mul-right, suc-mul}
 use lib.Arith.{digits-div, digits-mod}
 use Rattle.counting.specs.Counting.{In}
-use Rattle.grid.specs.Grid.{Grid, upright, Side, north, south, west, east, Node, pin, point, Inside}
+use Rattle.terms.specs.Kinds.{Side, north, south, west, east}
+use Rattle.grid.specs.Grid.{Grid, upright, Node, pin, point, Inside}
 use Rattle.grid.specs.Legal.{Pins, Wiring, holds, Legal, nets}
 use Rattle.grid.proofs.Pins.{Numbered}
 use Rattle.grid.proofs.Motion.{movedWiring}
@@ -91,7 +92,8 @@ module _ {n w q : ℕ} {p p′ : Pins} {x : Wiring} {tracks columns : ℕ → �
       → BoxLaid n w q p′ (λ i j l. x (f i) (h j) l) (λ s. tracks (lane w h s)) (λ i. columns (f i))
   laid-flip same d = record {
     drawing = drawing-flip (d .drawing);
-    tracked = lanes-flip (lane w h) (ap needsTrack same) (lane-flip rh q hw) first-row (omega (arith, mul-le-mul-right w hq)) (λ j hj. wests j ∙ ap (p west) (sym (in-first j hj))) (d .tracked);
+    tracked = lanes-flip (lane w h) (ap needsTrack same) (lane-flip rh q hw) first-row (omega (arith, mul-le-mul-right w hq))
+        (λ j hj. wests j ∙ ap (p west) (sym (in-first j hj))) (d .tracked);
     posted = lanes-flip f (ap needsColumn same) rf rf (omega arith) (λ i hi. souths i) (d .posted);
   }
     where
@@ -129,7 +131,8 @@ renamed-tally both g p m east = refl
 pub same-tally : (μ : Mirror) (g : Grid) (p : Pins) → tally g (renamed μ p) ≡ tally g (mirrored μ g p)
 same-tally μ g p = fun-ext (λ m. fun-ext (λ s. renamed-tally μ g p m s ∙ sym (mirror-tally μ g p m s)))
 
-module _ {n w q : ℕ} {p : Pins} {x : Wiring} {tracks columns : ℕ → ℕ} (hn : 1 ≤ n) (hw : 1 ≤ w) (hq : 1 ≤ q) (few : Numbered (upright n w (2 * q + 4)) p) where
+module _ {n w q : ℕ} {p : Pins} {x : Wiring} {tracks columns : ℕ → ℕ} (hn : 1 ≤ n) (hw : 1 ≤ w) (hq : 1 ≤ q)
+    (few : Numbered (upright n w (2 * q + 4)) p) where
   -- laid with the sides renamed: then so is the mirror image, which is mirrored back
   by-flips : (μ : Mirror) {f h : ℕ → ℕ} → Flip n f → Flip w h
       → ((i : ℕ) → mirrored μ (upright n w (2 * q + 4)) p north i ≡ renamed μ p north (f i))

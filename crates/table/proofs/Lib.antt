@@ -1,3 +1,6 @@
-pub mod Reading
-pub mod Figures
-pub mod Wirings
+pub mod Tallied
+pub mod Tests
+pub mod Nodes
+pub mod Nets
+pub mod Found
+pub mod Table

@@ -1,1 +1,3 @@
 pub mod Tickets
+pub mod Table
+pub mod Decide

@@ -1,1 +1,1 @@
-// No code: document 01's proof table, computed from the definitions.
+// No code: document 01's proof table, one theorem, computed from the definitions.

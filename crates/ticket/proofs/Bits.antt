@@ -4,7 +4,8 @@ use mathlib.Core.Bool.{Bool, true, false, cond, and-false, and-eq-true-iff}
 use mathlib.Core.List.{List}
 use mathlib.Core.Logic.{_≢_, ⊎-elim, by-cases}
 use mathlib.Core.Path.{_≡_, refl, sym, ap, _∙_}
-use native.Mathlib.Nat.{add-suc, zero-add, add-zero, div-one, lt-of-lt-of-le, le-trans, pow-suc, div-eq-of-lt, div-lt-iff-lt-mul, le-div-iff-mul-le, div-le-self, lt-of-le-of-lt}
+use native.Mathlib.Nat.{add-suc, zero-add, add-zero, div-one, lt-of-lt-of-le, le-trans, pow-suc, div-eq-of-lt, div-lt-iff-lt-mul, le-div-iff-mul-le}
+use native.Mathlib.Nat.{div-le-self, lt-of-le-of-lt}
 use native.Mathlib.Decide.{ℕ-discrete}
 use native.Mathlib.Numerals.{add-one}
 use native.Mathlib.Omega.{arith}
@@ -81,7 +82,8 @@ standing-byte s from j (suc d) h =
     rw (add-suc, q, r, t) (omega (arith, standing-byte s from j d (omega arith)))
 
 -- a whole byte
-pub standing-ones : (s : List ℕ) (from j : ℕ) → byte s (from + j) < 2 ^ 8 → standing s from (8 * (j + 1)) ≡ standing s from (8 * j) + ones (byte s (from + j))
+pub standing-ones : (s : List ℕ) (from j : ℕ) → byte s (from + j) < 2 ^ 8 → standing s from (8 * (j + 1)) ≡ standing s from (8 * j) + ones
+    (byte s (from + j))
 standing-ones s from j h =
     let b = byte s (from + j) in
     let e : 8 * (j + 1) ≡ 8 * j + 8 = omega arith in
@@ -117,7 +119,8 @@ module _ (s : List ℕ) (from p : ℕ) (some : 1 ≤ p) (h : lastByte s from p <
       let b = lastByte s from p in
       let one : 1 ≤ b / 2 ^ used p = le-div-iff-mul-le {k = 2 ^ used p} {x = 1} {y = b} (pow-pos (used p)) .1 (omega arith) in
       let more = ones-some 8 (b / 2 ^ used p) (lt-of-le-of-lt (div-le-self b (2 ^ used p)) h) one in
-      let ne : eqb (standing s from (8 * mapBytes p)) (standing s from p) ≡ false = ne-eqb (standing s from (8 * mapBytes p)) (standing s from p) (λ e. omega (arith, parts)) in
+      let ne : eqb (standing s from (8 * mapBytes p)) (standing s from p) ≡ false = ne-eqb (standing s from (8 * mapBytes p)) (standing s from p)
+      (λ e. omega (arith, parts)) in
       simp (ne, and-false)
 
   -- none does: all that stand in its bytes are places
@@ -179,7 +182,8 @@ module _ (s : List ℕ) (from p : ℕ) (all : standing s from p ≡ p) where
       split (stands s from (i + 1)) (λ e. e)
       (λ e. absurd (omega (arith, standing-none s from i e, full-standing i (omega arith), full-standing (i + 1) (omega arith))))
 
-pub pin-stands : (s : List ℕ) (from p i : ℕ) → i < p → stands s from (i + 1) ≡ true → pinNet s true from p (i + 1) ≡ byte s (from + mapBytes p + standing s from i)
+pub pin-stands : (s : List ℕ) (from p i : ℕ) → i < p → stands s from (i + 1) ≡ true → pinNet s true from p (i + 1) ≡ byte s
+    (from + mapBytes p + standing s from i)
 unfolding pinNet
 pin-stands s from p i h e = let q : i + 1 - 1 ≡ i = omega arith in rw (le-leb (i + 1) p (omega arith), e, q)
 

@@ -12,6 +12,7 @@ use Rattle.counting.specs.Counting.{In}
 use Rattle.grid.specs.Legal.{entry}
 use Rattle.ticket.proofs.Flags.{le-or-lt}
 use Rattle.ticket.specs.Format.{listed}
+use Rattle.counting.proofs.Lists.{zeros-at}
 
 pub length-listed : (f : ℕ → ℕ) (i n : ℕ) → length (listed f i n) ≡ n
 unfolding listed
@@ -32,9 +33,6 @@ module _ (f : ℕ → ℕ) (n : ℕ) where
   pub entry-past : (a : ℕ) → n < a → entry (listed f 1 n) a ≡ 0
   entry-past zero i = absurd (omega arith)
   entry-past (suc k) i = List·getD-eq-default (listed f 1 n) 0 (rw length-listed (omega arith))
-
-pub zeros-at : (n v : ℕ) → _≡_ {A = ℕ} (getD (replicate n 0) v 0) 0
-zeros-at n v = ⊎-elim (λ le. List·getD-eq-default (replicate n 0) 0 (rw length-replicate le)) (λ lt. getD-replicate n v 0 0 lt) (le-or-lt n v)
 
 pub record Filled (f : ℕ → ℕ) (n i : ℕ) (l : List ℕ) : Type 0 where
   pub size : length l ≡ n

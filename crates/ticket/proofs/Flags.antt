@@ -1,6 +1,6 @@
 -- A test that a call answered, from what the call ensures and the branch that was taken; and two numbers compared.
 use Prim.Native.Nat.{ℕ, _≤_, _<_}
-use mathlib.Core.Bool.{Bool, true, false, cond, not}
+use mathlib.Core.Bool.{_||_, Bool, true, false, cond, not}
 use mathlib.Core.Path.{_≡_, refl, sym, _∙_}
 use native.Mathlib.Omega.{arith}
 use mathlib.Core.Logic.{_⊎_, inl, inr}
@@ -14,7 +14,7 @@ failed {r} e f = sym e ∙ not-true r f
 pub passed : {r t : Bool} → r ≡ t → not r ≡ false → t ≡ true
 passed {r} e f = sym e ∙ not-false r f
 
-pub neither : (a b : Bool) → cond a true b ≡ false → (a ≡ false) × (b ≡ false)
+pub neither : (a b : Bool) → (a || b) ≡ false → (a ≡ false) × (b ≡ false)
 neither true b e = let z : _≡_ {A = ℕ} 0 1 = cc in absurd (omega arith)
 neither false b e = (refl, e)
 

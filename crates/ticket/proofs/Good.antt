@@ -1,9 +1,9 @@
 -- What callers use of a ticket that Read accepts: the ranges of its header, and of its pins that they are nets or empty, end with their side, leave
 -- bare the sides that its kind lacks, and that no net has one pin. Each stage of the reading was passed, and says its part.
 use Prim.Native.Nat.{ℕ, zero, suc, _+_, _^_, _≤_, _<_}
-use mathlib.Core.Bool.{Bool, true, false}
+use mathlib.Core.Bool.{Bool, true, false, true≢false}
 use mathlib.Core.List.{List}
-use mathlib.Core.Logic.{_≢_, ⊎-elim, by-cases}
+use mathlib.Core.Logic.{_⊎_, inl, inr, _≢_, ⊎-elim, by-cases}
 use mathlib.Core.Path.{_≡_, refl, sym, ap, _∙_, subst}
 use native.Mathlib.Decide.{ℕ-discrete}
 use native.Mathlib.Nat.{div-eq-of-lt}
@@ -14,22 +14,25 @@ use lib.ListN.{length}
 use borrow.Author.Tests.{eqb-true, eqb-false, eq-eqb, ne-eqb, leb-true}
 use Rattle.counting.specs.Counting.{In}
 use Rattle.counting.proofs.Sums.{split}
-use Rattle.grid.specs.Grid.{Grid, Side, north, south, west, east, places, upright}
-use Rattle.grid.specs.Legal.{Pins as GridPins, topNet, row, channel, box, entry}
-use Rattle.grid.specs.Limits.{longestSide}
-use Rattle.grid.proofs.Pins.{Bare}
+use Rattle.terms.specs.Kinds.{Side, north, south, west, east, byKind, hasSide, largestSideMap, largestByte2}
+use Rattle.terms.proofs.Laws.{Known, is-row, is-channel, is-box, known}
+use Rattle.terms.specs.Limits.{largestNet, longestSide}
+use Rattle.grid.specs.Grid.{Grid, places, upright}
+use Rattle.grid.specs.Legal.{Pins as GridPins, entry}
 use Rattle.ticket.proofs.Flags.{le-or-lt}
 use Rattle.ticket.proofs.Bits.{standing-below, pin-stands, pin-empty, pin-past, pin-off}
-use Rattle.ticket.proofs.Filled.{length-listed, entry-listed, entry-past}
+use Rattle.ticket.proofs.Filled.{entry-listed, entry-past}
 use Rattle.ticket.proofs.Seconds.{second}
 use Rattle.ticket.proofs.Spans.{side-read, side-before}
 use Rattle.ticket.proofs.Laws.{unless-good, Fields, fields-good, nets-good, least-zero}
 use Rattle.ticket.specs.declared.Cursor.{Cursor}
-use Rattle.ticket.specs.declared.Pins.{Pins}
-use Rattle.ticket.specs.declared.Ticket.{Ticket}
-use Rattle.ticket.specs.Format.{byte, largestByte2, isOn, stands, standing, mapBytes, pinNet, listed, sideNets, pinsIn, pinCount, loneNet, netCount}
-use Rattle.ticket.specs.Good.{Another, Good}
-use Rattle.ticket.specs.Read.{goOn, headerOf, netsOf, after, northEnd, southEnd, westEnd, eastEnd, endsOf, pinsAt, leftOver, noLone, acceptedTicket, orRefused, ticketOf, readOf}
+use Rattle.problem.specs.declared.Pins.{Pins}
+use Rattle.ticket.specs.declared.Reading.{Reading}
+use Rattle.problem.specs.declared.Problem.{Problem}
+use Rattle.problem.specs.Problem.{pinsIn, pinCount, loneNet, netCount, Another, Good, shapeOf}
+use Rattle.ticket.specs.Format.{byte, isOn, stands, standing, mapBytes, pinNet, listed, sideNets}
+use Rattle.ticket.specs.Read.{goOn, headerOf, netsOf, after, northEnd, southEnd, westEnd, eastEnd, endsOf, pinsAt, leftOver, noLone, acceptedReading}
+use Rattle.ticket.specs.Read.{problemAt, orRefused, ticketOf, problemOf}
 
 -- ---- a side's list
 
@@ -38,21 +41,21 @@ module _ (f : ℕ → ℕ) (n : ℕ) where
   entry-all : (P : ℕ → Type 0) → P 0 → ((a : ℕ) → In a n → P (f a)) → (a : ℕ) → P (entry (listed f 1 n) a)
   entry-all P z h zero = z
   entry-all P z h (suc k) =
-      ⊎-elim (λ le. subst P (sym (entry-listed f n (suc k) (omega arith))) (h (suc k) (omega arith))) (λ lt. subst P (sym (entry-past f n (suc k) lt)) z) (le-or-lt (suc k) n)
+      ⊎-elim (λ le. subst P (sym (entry-listed f n (suc k) (omega arith))) (h (suc k) (omega arith))) (λ lt. subst P (sym (entry-past f n (suc k) lt)) z)
+      (le-or-lt (suc k) n)
 
 -- the nets of a side of p places
 record Listed (p : ℕ) (l : List ℕ) : Type 0 where
-  size : length l ≡ longestSide
-  small : (a : ℕ) → entry l a ≤ topNet
+  small : (a : ℕ) → entry l a ≤ largestNet
   past : (a : ℕ) → p < a → entry l a ≡ 0
 
-nets-small : (s : List ℕ) (k i j : ℕ) → netsOf s i k .number ≡ 0 → j < k → byte s (i + j) ≤ topNet
+nets-small : (s : List ℕ) (k i j : ℕ) → netsOf s i k .refusal .number ≡ 0 → j < k → byte s (i + j) ≤ largestNet
 nets-small s zero i j e h = absurd (omega arith)
 nets-small s (suc k) i zero e h = let q : i + 0 ≡ i = omega arith in rw q (nets-good s k i e .1)
 nets-small s (suc k) i (suc j) e h = let q : i + suc j ≡ i + 1 + j = omega arith in rw q (nets-small s k (i + 1) j (nets-good s k i e .2) (omega arith))
 
-module _ (s : List ℕ) (from p : ℕ) (e : netsOf s (from + mapBytes p) (standing s from p) .number ≡ 0) where
-  pin-small : (i : ℕ) → pinNet s true from p (i + 1) ≤ topNet
+module _ (s : List ℕ) (from p : ℕ) (e : netsOf s (from + mapBytes p) (standing s from p) .refusal .number ≡ 0) where
+  pin-small : (i : ℕ) → pinNet s true from p (i + 1) ≤ largestNet
   pin-small i =
       ⊎-elim (λ le. omega (arith, pin-past s true from p (i + 1) (omega arith)))
       (λ lt.
@@ -61,20 +64,20 @@ module _ (s : List ℕ) (from p : ℕ) (e : netsOf s (from + mapBytes p) (standi
       (λ t. omega (arith, pin-empty s true from p (i + 1) t)))
       (le-or-lt p i)
 
-  pin-small-at : (a : ℕ) → In a longestSide → pinNet s true from p a ≤ topNet
+  pin-small-at : (a : ℕ) → In a longestSide → pinNet s true from p a ≤ largestNet
   pin-small-at zero i = absurd (omega arith)
   pin-small-at (suc k) i = rw (← add-one) (pin-small k)
 
-listed-side : (s : List ℕ) (on : Bool) (from p : ℕ) → ((a : ℕ) → In a longestSide → pinNet s on from p a ≤ topNet) → Listed p (sideNets s on from p)
+listed-side : (s : List ℕ) (on : Bool) (from p : ℕ) → ((a : ℕ) → In a longestSide → pinNet s on from p a ≤ largestNet) → Listed p (sideNets s on from p)
 unfolding sideNets
 listed-side s on from p small =
     record {
-      size = length-listed (pinNet s on from p) 1 longestSide;
-      small = entry-all (pinNet s on from p) longestSide (λ x. x ≤ topNet) (omega arith) small;
-      past = λ a h. ⊎-elim (λ le. entry-listed (pinNet s on from p) longestSide a (omega arith) ∙ pin-past s on from p a h) (entry-past (pinNet s on from p) longestSide a) (le-or-lt a longestSide);
+      small = entry-all (pinNet s on from p) longestSide (λ x. x ≤ largestNet) (omega arith) small;
+      past = λ a h. ⊎-elim (λ le. entry-listed (pinNet s on from p) longestSide a (omega arith) ∙ pin-past s on from p a h)
+          (entry-past (pinNet s on from p) longestSide a) (le-or-lt a longestSide);
     }
 
-side-listed : (s : List ℕ) (on : Bool) (p : ℕ) (c : Cursor) → after s on p c .number ≡ 0 → Listed p (sideNets s on (c .at) p)
+side-listed : (s : List ℕ) (on : Bool) (p : ℕ) (c : Cursor) → after s on p c .refusal .number ≡ 0 → Listed p (sideNets s on (c .at) p)
 side-listed s true p c e = listed-side s true (c .at) p (pin-small-at s (c .at) p (side-read s p c e .nets))
 side-listed s false p c e = listed-side s false (c .at) p (λ a i. omega (arith, pin-off s (c .at) p a))
 
@@ -85,26 +88,26 @@ side-bare s on from p off a =
 
 -- ---- the stages were passed
 
-stage : (c : Cursor) (t : Ticket) → orRefused c t .answer .number ≡ 0 → (c .number ≡ 0) × (orRefused c t ≡ t)
+stage : (c : Cursor) (t : Reading) → orRefused c t .refusal .number ≡ 0 → (c .refusal .number ≡ 0) × (orRefused c t ≡ t)
 stage c t e =
-    by-cases (ℕ-discrete (c .number) 0)
-    (λ z. (z, rw (eq-eqb (c .number) 0 z)))
-    (λ n. absurd (n (rw (ne-eqb (c .number) 0 n) at e)))
+    by-cases (ℕ-discrete (c .refusal .number) 0)
+    (λ z. (z, rw (eq-eqb (c .refusal .number) 0 z)))
+    (λ n. absurd (n (rw (ne-eqb (c .refusal .number) 0 n) at e)))
 
 abbrev pub found : List ℕ → Pins
 found s = pinsAt s (endsOf s)
 
-abbrev number : Ticket → ℕ
-number t = t .answer .number
+abbrev number : Reading → ℕ
+number t = t .refusal .number
 
 pub record Read (s : List ℕ) : Type 0 where
   pub header : Fields (byte s 0) (byte s 1) (byte s 2) (byte s 3)
-  pub sides : eastEnd s .number ≡ 0
+  pub sides : eastEnd s .refusal .number ≡ 0
   pub end : length s ≤ eastEnd s .at
   pub lone : loneNet (pinsIn (found s)) ≡ 0
-  pub whole : ticketOf s ≡ acceptedTicket s (netCount (pinsIn (found s))) (found s)
+  pub whole : ticketOf s ≡ acceptedReading (problemAt s (netCount (pinsIn (found s))) (found s))
 
-pub passed : (s : List ℕ) → readOf s .number ≡ 0 → Read s
+pub passed : (s : List ℕ) → ticketOf s .refusal .number ≡ 0 → Read s
 unfolding ticketOf headerOf
 passed s e =
     let a = stage (headerOf s) _ e in
@@ -125,9 +128,6 @@ passed s e =
 off : (b k : ℕ) → b < 2 ^ k → isOn b k ≡ false
 off b k h = rw (div-eq-of-lt h)
 
-pub byte2-fits : (kind : ℕ) {w : ℕ} → w ≤ largestByte2 kind → w ≤ longestSide
-byte2-fits kind h = split (eqb kind box) (λ e. rw e at h) (λ e. omega (arith, rw e at h))
-
 module _ (s : List ℕ) (r : Read s) where
   ends : Listed (byte s 1) (found s .north) × Listed (byte s 1) (found s .south) × Listed (byte s 2) (found s .west) × Listed (byte s 2) (found s .east)
   unfolding northEnd southEnd westEnd eastEnd
@@ -137,20 +137,59 @@ module _ (s : List ℕ) (r : Read s) where
       let n = side-before s _ _ (northEnd s) so in
       (side-listed s _ _ (goOn 4) n, side-listed s _ _ (northEnd s) so, side-listed s _ _ (southEnd s) w, side-listed s _ _ (westEnd s) (r .sides))
 
-  abbrev grid : Grid
-  grid = upright (byte s 1) (byte s 2) 1
+  abbrev problem : Problem
+  problem = problemAt s (netCount (pinsIn (found s))) (found s)
 
-  small : (side : Side) (a : ℕ) → pinsIn (found s) side a ≤ topNet
+  abbrev grid : Grid
+  grid = shapeOf problem
+
+  small : (side : Side) (a : ℕ) → pinsIn (found s) side a ≤ largestNet
   small north = ends .0 .small
   small south = ends .1 .small
   small west = ends .2 .small
   small east = ends .3 .small
 
+  known-kind : Known (byte s 0)
+  known-kind = known (byte s 0) (r .header .named)
+
+  -- a side that the kind lacks has no bit in the side map
+  lacking : {kind : ℕ} (side : Side) → Known kind → hasSide kind side ≡ false → byte s 3 ≤ largestSideMap kind → (a : ℕ) → pinsIn (found s) side a ≡ 0
+  lacking south is-row e h = side-bare s _ _ _ (off (byte s 3) 1 (omega arith))
+  lacking west is-row e h = side-bare s _ _ _ (off (byte s 3) 2 (omega arith))
+  lacking east is-row e h = side-bare s _ _ _ (off (byte s 3) 3 (omega arith))
+  lacking west is-channel e h = side-bare s _ _ _ (off (byte s 3) 2 (omega arith))
+  lacking east is-channel e h = side-bare s _ _ _ (off (byte s 3) 3 (omega arith))
+  lacking north is-row e h = absurd (true≢false e)
+  lacking north is-channel e h = absurd (true≢false e)
+  lacking south is-channel e h = absurd (true≢false e)
+  lacking north is-box e h = absurd (true≢false e)
+  lacking south is-box e h = absurd (true≢false e)
+  lacking west is-box e h = absurd (true≢false e)
+  lacking east is-box e h = absurd (true≢false e)
+
+  bare : (side : Side) → hasSide (byte s 0) side ≡ false → (a : ℕ) → pinsIn (found s) side a ≡ 0
+  bare side e = lacking side known-kind e (r .header .sides)
+
+  -- the width that the map was read by is the kind's own, or the side is bare
+  upper : {kind : ℕ} (side : Side) → Known kind → (hasSide kind side ≡ false) ⊎
+      (places (upright (byte s 1) (byKind kind 1 1 1 (byte s 2)) 1) side ≡ places (upright (byte s 1) (byte s 2) 1) side)
+  upper north k = inr refl
+  upper south k = inr refl
+  upper west is-row = inl refl
+  upper east is-row = inl refl
+  upper west is-channel = inl refl
+  upper east is-channel = inl refl
+  upper west is-box = inr refl
+  upper east is-box = inr refl
+
+  past-map : (side : Side) (a : ℕ) → places (upright (byte s 1) (byte s 2) 1) side < a → pinsIn (found s) side a ≡ 0
+  past-map north = ends .0 .past
+  past-map south = ends .1 .past
+  past-map west = ends .2 .past
+  past-map east = ends .3 .past
+
   past : (side : Side) (a : ℕ) → places grid side < a → pinsIn (found s) side a ≡ 0
-  past north = ends .0 .past
-  past south = ends .1 .past
-  past west = ends .2 .past
-  past east = ends .3 .past
+  past side a h = ⊎-elim (λ e. bare side e a) (λ e. past-map side a (subst (λ (x : ℕ). x < a) e h)) (upper side known-kind)
 
   none : (side : Side) → pinsIn (found s) side 0 ≡ 0
   none north = refl
@@ -162,11 +201,16 @@ module _ (s : List ℕ) (r : Read s) where
   inside side zero m n e = absurd (n (sym e ∙ none side))
   inside side (suc a) m n e = ⊎-elim (λ le. (omega arith, le)) (λ lt. absurd (n (sym e ∙ past side (suc a) lt))) (le-or-lt (suc a) (places grid side))
 
+  wide : {kind : ℕ} → Known kind → byte s 2 ≤ largestByte2 kind → byKind kind 1 1 1 (byte s 2) ≤ longestSide
+  wide is-row h = omega arith
+  wide is-channel h = omega arith
+  wide is-box h = h
+
   fits : (side : Side) → places grid side ≤ longestSide
   fits north = r .header .length .1
   fits south = r .header .length .1
-  fits west = byte2-fits (byte s 0) (r .header .second .1)
-  fits east = byte2-fits (byte s 0) (r .header .second .1)
+  fits west = wide known-kind (r .header .second .1)
+  fits east = wide known-kind (r .header .second .1)
 
   abbrev pins : GridPins
   pins = pinsIn (found s)
@@ -175,46 +219,25 @@ module _ (s : List ℕ) (r : Read s) where
   several side a n =
       let i = inside side a _ n refl in
       let u = second pins (pins side a) side a (omega (arith, fits side)) refl
-      (eqb-false _ 1 (least-zero (λ v. eqb (pinCount pins v) 1) topNet (pins side a) (r .lone) (omega arith) (small side a))) in
+      (eqb-false _ 1 (least-zero (λ v. eqb (pinCount pins v) 1) largestNet (pins side a) (r .lone) (omega arith) (small side a))) in
       record { side = u .side; place = u .place; on = inside (u .side) (u .place) _ n (u .net); net = u .net; different = u .different }
 
-  -- the sides that a row and a channel lack
-  map-row : byte s 0 ≡ row → byte s 3 ≤ 1
-  map-row e = rw (eq-eqb (byte s 0) row e) at (r .header .sides)
-
-  map-channel : byte s 0 ≢ box → byte s 3 ≤ 3
-  map-channel n =
-      by-cases (ℕ-discrete (byte s 0) row) (λ e. omega (arith, map-row e))
-      (λ no. rw (ne-eqb (byte s 0) row no, eq-eqb (byte s 0) channel (omega (arith, r .header .kinds))) at (r .header .sides))
-
-  bare-south : byte s 0 ≡ row → Bare pins south
-  bare-south e = side-bare s _ _ _ (off (byte s 3) 1 (omega (arith, map-row e)))
-
-  bare-west : byte s 0 ≢ box → Bare pins west
-  bare-west n = side-bare s _ _ _ (off (byte s 3) 2 (omega (arith, map-channel n)))
-
-  bare-east : byte s 0 ≢ box → Bare pins east
-  bare-east n = side-bare s _ _ _ (off (byte s 3) 3 (omega (arith, map-channel n)))
-
-  good : Good (acceptedTicket s (netCount pins) (found s))
+  good : Good problem
   good =
       record {
-        kinds = r .header .kinds;
+        kind = r .header .named;
         columns = r .header .length;
-        width = λ e. let h = r .header .second in (h .0, rw (eq-eqb (byte s 0) box e) at (h .1));
-        trunks = λ n. let h = r .header .second in (h .0, rw (ne-eqb (byte s 0) box n) at (h .1));
-        north-size = ends .0 .size;
-        south-size = ends .1 .size;
-        west-size = ends .2 .size;
-        east-size = ends .3 .size;
+        byte2 = r .header .second;
         numbered = small;
         ends = past;
-        bare-south = bare-south;
-        bare-west = bare-west;
-        bare-east = bare-east;
+        bare = bare;
         several = several;
         nets = refl;
       }
 
-pub read-good : (s : List ℕ) → readOf s .number ≡ 0 → Good (ticketOf s)
-read-good s e = let r = passed s e in subst Good (sym (r .whole)) (good s r)
+pub read-good : (s : List ℕ) → ticketOf s .refusal .number ≡ 0 → Good (problemOf s)
+read-good s e = let r = passed s e in subst (λ (t : Reading). Good (t .problem)) (sym (r .whole)) (good s r)
+
+-- the same of what `parse` answered
+pub reading-good : (s : List ℕ) {t : Reading} → t ≡ ticketOf s → t .refusal .number ≡ 0 → Good (t .problem)
+reading-good s e z = subst (λ (u : Reading). Good (u .problem)) (sym e) (read-good s (sym (ap (λ (u : Reading). u .refusal .number) e) ∙ z))

@@ -11,70 +11,74 @@ use native.Mathlib.Omega.{arith}
 use lib.Dec.{leb, ltb, eqb}
 use lib.ListN.{length}
 use borrow.Author.Tests.{lt-ltb, le-ltb, eq-eqb, ne-eqb, leb-true}
-use Rattle.grid.specs.Legal.{topNet, box}
-use Rattle.grid.specs.Limits.{longestSide, within}
-use Rattle.ticket.specs.Format.{byte, mostTrunkLayers, largestByte2, largestSideMap, least}
-use Rattle.ticket.specs.Read.{refusal, goOn, unless, fieldsOf, headerOf, netsOf, orRefused, refusedTicket}
+use Rattle.terms.specs.Kinds.{isKind, largestByte2, largestSideMap}
+use Rattle.terms.specs.Limits.{largestNet, longestSide, within, mostTrunkLayers}
+use Rattle.counting.specs.Counting.{least}
+use Rattle.ticket.specs.Format.{byte}
+use Rattle.ticket.specs.Read.{stop, goOn, fieldsOf, headerOf, netsOf, orRefused, refusedReading}
+use Rattle.terms.specs.Refusals.{unless}
+use Rattle.terms.proofs.Laws.{within-in, Known, is-row, is-channel, is-box, known}
 use Rattle.ticket.specs.Steps.{Header}
+use Rattle.ticket.specs.declared.Reading.{Reading}
 use Rattle.ticket.specs.declared.Cursor.{Cursor}
-use Rattle.ticket.specs.declared.Ticket.{Ticket}
 
-pub at-refused : {r : Cursor} {k p : ℕ} → r ≡ refusal k p → r .at ≡ 0
+pub at-refused : {r : Cursor} {k p : ℕ} → r ≡ stop k p → r .at ≡ 0
 at-refused e = ap (λ (c : Cursor). c .at) e
 
 pub at-going : {r : Cursor} {i : ℕ} → r ≡ goOn i → r .at ≡ i
 at-going e = ap (λ (c : Cursor). c .at) e
 
 -- nothing is refused: the test held, and nothing is refused after it
-pub unless-good : (t : Bool) (k p : ℕ) (c : Cursor) → (k ≡ 0 → ⊥) → unless t k p c .number ≡ 0 → (t ≡ true) × (c .number ≡ 0) × (unless t k p c ≡ c)
-unfolding unless
+pub unless-good : (t : Bool) (k p : ℕ) (c : Cursor) → (k ≡ 0 → ⊥) → unless t (stop k p) c .refusal .number ≡ 0 → (t ≡ true) × (c .refusal .number ≡ 0) ×
+    (unless t (stop k p) c ≡ c)
 unless-good true k p c n e = (refl, e, refl)
 unless-good false k p c n e = absurd (n e)
 
 -- ---- the header
 
-pub both : (a b : Bool) → (a && b) ≡ true → (a ≡ true) × (b ≡ true)
-both true b e = (refl, e)
-both false b e = let z : _≡_ {A = ℕ} 0 1 = cc in absurd (omega arith)
-
-pub within-is : (x m : ℕ) → within x m ≡ true → (1 ≤ x) × (x ≤ m)
-within-is x m e = let h = both (leb 1 x) (leb x m) e in (leb-true 1 x (h .0), leb-true x m (h .1))
-
 -- what a good header says
 pub record Fields (kind n byte2 map : ℕ) : Type 0 where
-  pub kinds : (1 ≤ kind) × (kind ≤ box)
+  pub named : isKind kind ≡ true
   pub length : (1 ≤ n) × (n ≤ longestSide)
   pub second : (1 ≤ byte2) × (byte2 ≤ largestByte2 kind)
   pub sides : map ≤ largestSideMap kind
 
-pub fields-good : (kind n byte2 map : ℕ) → fieldsOf kind n byte2 map .number ≡ 0 → Fields kind n byte2 map
+pub fields-good : (kind n byte2 map : ℕ) → fieldsOf kind n byte2 map .refusal .number ≡ 0 → Fields kind n byte2 map
 unfolding fieldsOf
 fields-good kind n byte2 map e =
-    let a = unless-good (within kind box) 2 0 _ (λ q. omega arith) e in
+    let a = unless-good (isKind kind) 2 0 _ (λ q. omega arith) e in
     let b = unless-good (within n longestSide) 3 1 _ (λ q. omega arith) (a .1) in
     let c = unless-good (within byte2 (largestByte2 kind)) 4 2 _ (λ q. omega arith) (b .1) in
     let d = unless-good (leb map (largestSideMap kind)) 5 3 _ (λ q. omega arith) (c .1) in
-    record { kinds = within-is _ _ (a .0); length = within-is _ _ (b .0); second = within-is _ _ (c .0); sides = leb-true _ _ (d .0) }
+    record { named = a .0; length = within-in _ _ (b .0); second = within-in _ _ (c .0); sides = leb-true _ _ (d .0) }
 
-second-le : (t : Bool) → cond t longestSide mostTrunkLayers ≤ longestSide
-second-le true = omega arith
-second-le false = omega arith
+-- byte 2 of every kind fits a side
+pub second-le : {kind : ℕ} → Known kind → largestByte2 kind ≤ longestSide
+second-le is-row = omega arith
+second-le is-channel = omega arith
+second-le is-box = omega arith
 
-pub header-good : (s : List ℕ) → headerOf s .number ≡ 0 → Header s
+pub header-good : (s : List ℕ) → headerOf s .refusal .number ≡ 0 → Header s
 unfolding headerOf
 header-good s e =
     let a = unless-good (leb 4 (length s)) 1 (length s) _ (λ q. omega arith) e in
     let f = fields-good (byte s 0) (byte s 1) (byte s 2) (byte s 3) (a .1) in
-    record { size = leb-true 4 (length s) (a .0); one = f .length; two = (f .second .0, omega (arith, f .second .1, second-le (eqb (byte s 0) box))) }
+    record {
+      size = leb-true 4 (length s) (a .0);
+      one = f .length;
+      two =
+          (f .second .0, omega (arith, f .second .1, second-le (known (byte s 0) (f .named))));
+    }
 
 -- ---- net bytes
 
-pub nets-good : (s : List ℕ) (k i : ℕ) → netsOf s i (suc k) .number ≡ 0 → (i < length s) × (byte s i ≤ topNet) × (netsOf s (i + 1) k .number ≡ 0) × (netsOf s i (suc k) ≡ netsOf s (i + 1) k)
+pub nets-good : (s : List ℕ) (k i : ℕ) → netsOf s i (suc k) .refusal .number ≡ 0 → (i < length s) × (byte s i ≤ largestNet) ×
+    (netsOf s (i + 1) k .refusal .number ≡ 0) × (netsOf s i (suc k) ≡ netsOf s (i + 1) k)
 unfolding netsOf
 nets-good s k i e =
     let a = unless-good (ltb i (length s)) 1 (length s) _ (λ q. omega arith) e in
-    let b = unless-good (within (byte s i) topNet) 7 i _ (λ q. omega arith) (a .1) in
-    (leb-true _ _ (a .0), within-is _ _ (b .0) .1, b .1, a .2 ∙ b .2)
+    let b = unless-good (within (byte s i) largestNet) 7 i _ (λ q. omega arith) (a .1) in
+    (leb-true _ _ (a .0), within-in _ _ (b .0) .1, b .1, a .2 ∙ b .2)
 
 module _ (s : List ℕ) (i : ℕ) where
   pub nets-end : (k : ℕ) → k ≤ 0 → netsOf s i k ≡ goOn i
@@ -82,18 +86,18 @@ module _ (s : List ℕ) (i : ℕ) where
   nets-end zero h = refl
   nets-end (suc k) h = absurd (not-suc-le-zero h)
 
-  pub nets-missing : (k : ℕ) → 0 < k → length s ≤ i → netsOf s i k ≡ refusal 1 (length s)
-  unfolding netsOf unless
+  pub nets-missing : (k : ℕ) → 0 < k → length s ≤ i → netsOf s i k ≡ stop 1 (length s)
+  unfolding netsOf
   nets-missing zero h l = absurd (not-suc-le-zero h)
   nets-missing (suc k) h l = simp (le-ltb i (length s) l)
 
-  pub nets-bad : (k : ℕ) → 0 < k → i < length s → within (byte s i) topNet ≡ false → netsOf s i k ≡ refusal 7 i
-  unfolding netsOf unless
+  pub nets-bad : (k : ℕ) → 0 < k → i < length s → within (byte s i) largestNet ≡ false → netsOf s i k ≡ stop 7 i
+  unfolding netsOf
   nets-bad zero h l e = absurd (not-suc-le-zero h)
   nets-bad (suc k) h l e = simp (lt-ltb i (length s) l, e)
 
-  pub nets-more : (k : ℕ) → 0 < k → i < length s → within (byte s i) topNet ≡ true → netsOf s i k ≡ netsOf s (i + 1) (k - 1)
-  unfolding netsOf unless
+  pub nets-more : (k : ℕ) → 0 < k → i < length s → within (byte s i) largestNet ≡ true → netsOf s i k ≡ netsOf s (i + 1) (k - 1)
+  unfolding netsOf
   nets-more zero h l e = absurd (not-suc-le-zero h)
   nets-more (suc k) h l e =
       let q : suc k - 1 ≡ k = omega arith in
@@ -107,7 +111,8 @@ nets-start s from count =
     ap (λ (x : ℕ). netsOf s x count) a ∙ ap (netsOf s (from + 0)) b
 
 module _ (s : List ℕ) (from count i : ℕ) where
-  pub nets-pass : i < count → from + count ≤ length s → within (byte s (from + i)) topNet ≡ true → netsOf s (from + i) (count - i) ≡ netsOf s (from + (i + 1)) (count - (i + 1))
+  pub nets-pass : i < count → from + count ≤ length s → within (byte s (from + i)) largestNet ≡ true → netsOf s (from + i) (count - i) ≡ netsOf s
+      (from + (i + 1)) (count - (i + 1))
   nets-pass h l e =
       let a : from + i + 1 ≡ from + (i + 1) = omega arith in
       let b : count - i - 1 ≡ count - (i + 1) = omega arith in
@@ -158,8 +163,8 @@ least-same t t′ (suc top) e = rw (e (suc top) (omega arith) (omega arith), lea
 
 -- ---- the stages of the whole reading
 
-pub turned-down : {a c : Cursor} (t : Ticket) {r : Ticket} → a ≡ c → (a .number ≡ 0 → ⊥) → r ≡ refusedTicket a → r ≡ orRefused c t
-turned-down {a} {c} t e n h = h ∙ sym (rw (← e) (rw (ne-eqb (a .number) 0 n)))
+pub turned-down : {a c : Cursor} (t : Reading) {r : Reading} → a ≡ c → (a .refusal .number ≡ 0 → ⊥) → r ≡ refusedReading a → r ≡ orRefused c t
+turned-down {a} {c} t e n h = h ∙ sym (rw (← e) (rw (ne-eqb (a .refusal .number) 0 n)))
 
-pub going-on : {a c : Cursor} (t : Ticket) → a ≡ c → a .number ≡ 0 → orRefused c t ≡ t
-going-on {a} {c} t e z = rw (← e) (rw (eq-eqb (a .number) 0 z))
+pub going-on : {a c : Cursor} (t : Reading) → a ≡ c → a .refusal .number ≡ 0 → orRefused c t ≡ t
+going-on {a} {c} t e z = rw (← e) (rw (eq-eqb (a .refusal .number) 0 z))

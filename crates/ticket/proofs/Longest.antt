@@ -6,32 +6,36 @@ use mathlib.Core.Logic.{_≢_, by-cases, ⊎-elim}
 use mathlib.Core.Path.{_≡_, refl, sym, ap, _∙_}
 use native.Mathlib.Decide.{ℕ-discrete}
 use native.Mathlib.Omega.{arith}
-use lib.Dec.{eqb}
+use lib.Dec.{eqb, leb, ltb}
 use lib.ListN.{length, take}
 use lib.Seq.{getD-take, length-take-le, take-all}
 use borrow.Author.Tests.{le-leb, lt-leb, lt-ltb}
 use Rattle.counting.proofs.Counts.{count-same}
-use Rattle.grid.specs.Limits.{longestSide}
+use Rattle.terms.specs.Limits.{longestSide, largestNet, within}
 use Rattle.ticket.proofs.Bits.{standing-le}
 use Rattle.ticket.proofs.Flags.{le-or-lt}
-use Rattle.ticket.proofs.Good.{passed, byte2-fits}
-use Rattle.ticket.proofs.Laws.{header-good, turned-down}
+use Rattle.ticket.proofs.Good.{passed}
+use Rattle.ticket.proofs.Laws.{header-good, second-le, turned-down}
 use Rattle.ticket.specs.Format.{byte, longestTicket, isOn, standing, mapBytes, goodMap}
-use Rattle.ticket.specs.Read.{refusal, goOn, unless, headerOf, netsOf, sideOf, after, northEnd, southEnd, westEnd, eastEnd, endsOf, pinsAt, leftOver, judged, orRefused, refusedTicket, ticketOf, readOf}
+use Rattle.ticket.specs.Read.{stop, goOn, headerOf, netsOf, sideOf, after, northEnd, southEnd, westEnd, eastEnd, endsOf, pinsAt, leftOver, judged}
+use Rattle.ticket.specs.Read.{orRefused, refusedReading, ticketOf}
+use Rattle.terms.specs.Refusals.{unless}
+use Rattle.terms.proofs.Laws.{known}
 use Rattle.ticket.specs.declared.Cursor.{Cursor}
-use Rattle.ticket.specs.declared.Ticket.{Ticket}
+use Rattle.ticket.specs.declared.Reading.{Reading}
 
 -- ---- where reading stands after each side
 
-unless-at : (t : Bool) (k p : ℕ) (c : Cursor) (b : ℕ) → c .at ≤ b → unless t k p c .at ≤ b
-unfolding unless
+unless-at : (t : Bool) (k p : ℕ) (c : Cursor) (b : ℕ) → c .at ≤ b → unless t (stop k p) c .at ≤ b
 unless-at true k p c b h = h
 unless-at false k p c b h = omega arith
 
 nets-at : (s : List ℕ) (k i : ℕ) → netsOf s i k .at ≤ i + k
 unfolding netsOf
 nets-at s zero i = omega arith
-nets-at s (suc k) i = unless-at _ _ _ _ _ (unless-at _ _ _ _ _ (omega (arith, nets-at s k (i + 1))))
+nets-at s (suc k) i =
+    unless-at (ltb i (length s)) 1 (length s) _ (i + suc k)
+    (unless-at (within (byte s i) largestNet) 7 i (netsOf s (i + 1) k) (i + suc k) (omega (arith, nets-at s k (i + 1))))
 
 -- the most bytes of a side: its map and a net for each place
 abbrev mostSide : ℕ
@@ -40,11 +44,13 @@ mostSide = mapBytes longestSide + longestSide
 side-at : (s : List ℕ) (from p : ℕ) → p ≤ longestSide → sideOf s from p .at ≤ from + mostSide
 unfolding sideOf
 side-at s from p few =
-    unless-at _ _ _ _ _ (unless-at _ _ _ _ _ (omega (arith, nets-at s (standing s from p) (from + mapBytes p), standing-le s from p)))
+    unless-at (leb (from + mapBytes p) (length s)) 1 (length s) _ (from + mostSide)
+    (unless-at (goodMap s from p) 6 from (netsOf s (from + mapBytes p) (standing s from p)) (from + mostSide)
+    (omega (arith, nets-at s (standing s from p) (from + mapBytes p), standing-le s from p)))
 
 after-at : (s : List ℕ) (on : Bool) (p : ℕ) (c : Cursor) → p ≤ longestSide → after s on p c .at ≤ c .at + mostSide
 unfolding after
-after-at s on p c few = by-test (eqb (c .number) 0 && on)
+after-at s on p c few = by-test (eqb (c .refusal .number) 0 && on)
   where
     by-test : (t : Bool) → cond t (sideOf s (c .at) p) c .at ≤ c .at + mostSide
     by-test true = side-at s (c .at) p few
@@ -66,12 +72,12 @@ reached s one two =
     let e = after-at s (isOn (byte s 3) 3) (byte s 2) (westEnd s) two in
     record { north = n; south = omega arith; west = omega arith; east = omega arith }
 
-pub longest : (s : List ℕ) → readOf s .number ≡ 0 → length s ≤ longestTicket
+pub longest : (s : List ℕ) → ticketOf s .refusal .number ≡ 0 → length s ≤ longestTicket
 longest s e =
     let r = passed s e in
-    omega (arith, r .end, reached s (r .header .length .1) (byte2-fits (byte s 0) (r .header .second .1)) .east)
+    omega (arith, r .end, reached s (r .header .length .1) (omega (arith, r .header .second, second-le (known (byte s 0) (r .header .named)))) .east)
 
-pub longer-refused : (s : List ℕ) → longestTicket < length s → readOf s .number ≢ 0
+pub longer-refused : (s : List ℕ) → longestTicket < length s → ticketOf s .refusal .number ≢ 0
 longer-refused s h e = omega (arith, longest s e)
 
 -- ---- two long lists that begin alike are read alike
@@ -83,7 +89,7 @@ record Alike (s t : List ℕ) : Type 0 where
 
 module _ (s t : List ℕ) (q : Alike s t) where
   nets-alike : (k i : ℕ) → i + k ≤ longestTicket → netsOf s i k ≡ netsOf t i k
-  unfolding netsOf unless
+  unfolding netsOf
   nets-alike zero i h = refl
   nets-alike (suc k) i h =
       rw (
@@ -97,7 +103,7 @@ module _ (s t : List ℕ) (q : Alike s t) where
   standing-alike from p h = count-same _ _ p (λ a i. ap (λ (b : ℕ). isOn b ((a - 1) % 8)) (q .bytes (from + (a - 1) / 8) (omega arith)))
 
   side-alike : (from p : ℕ) → p ≤ longestSide → from + mostSide ≤ longestTicket → sideOf s from p ≡ sideOf t from p
-  unfolding sideOf unless goodMap
+  unfolding sideOf goodMap
   side-alike from p few h =
       rw (
         le-leb (from + mapBytes p) (length s) (omega (arith, q .long)),
@@ -114,11 +120,11 @@ module _ (s t : List ℕ) (q : Alike s t) where
   after-alike k j {c} h e few room =
       let map = q .bytes 3 (omega arith) in
       let many = q .bytes j (omega arith) in
-      ap (λ (x : Cursor). cond (eqb (c .number) 0 && isOn (byte s 3) k) x c) (side-alike (c .at) (byte s j) few room)
+      ap (λ (x : Cursor). cond (eqb (c .refusal .number) 0 && isOn (byte s 3) k) x c) (side-alike (c .at) (byte s j) few room)
       ∙ (λ i. after t (isOn (map i) k) (many i) (e i))
 
   header-alike : headerOf s ≡ headerOf t
-  unfolding headerOf unless
+  unfolding headerOf
   header-alike =
       rw (
         le-leb 4 (length s) (omega (arith, q .long)),
@@ -139,23 +145,22 @@ module _ (s t : List ℕ) (q : Alike s t) where
       after-alike 3 2 (omega arith) west two (omega (arith, r .west))
 
 -- what comes after the header
-abbrev rest : List ℕ → Ticket
+abbrev rest : List ℕ → Reading
 rest s = orRefused (eastEnd s) (orRefused (leftOver s (eastEnd s .at)) (judged s (pinsAt s (endsOf s))))
 
 -- the same where bytes are left over: it depends on where the last side ends, and on no byte
-abbrev overfull : Cursor → Ticket
-overfull e = orRefused e (refusedTicket (refusal 8 (e .at)))
+abbrev overfull : Cursor → Reading
+overfull e = orRefused e (refusedReading (stop 8 (e .at)))
 
 rest-over : (s : List ℕ) → eastEnd s .at < length s → rest s ≡ overfull (eastEnd s)
-unfolding unless
 rest-over s h =
-    let left : refusal 8 (eastEnd s .at) ≡ leftOver s (eastEnd s .at) = sym (simp (lt-leb (length s) (eastEnd s .at) h)) in
+    let left : stop 8 (eastEnd s .at) ≡ leftOver s (eastEnd s .at) = sym (simp (lt-leb (length s) (eastEnd s .at) h)) in
     ap (orRefused (eastEnd s)) (sym (turned-down _ left (λ e. omega arith) refl))
 
 ticket-alike : (s t : List ℕ) → Alike s t → ticketOf s ≡ ticketOf t
 unfolding ticketOf
 ticket-alike s t q =
-    by-cases (ℕ-discrete (headerOf s .number) 0)
+    by-cases (ℕ-discrete (headerOf s .refusal .number) 0)
     (λ z.
     let h = header-good s z in
     let e = east-alike s t q (h .one .1) (h .two .1) in
@@ -171,5 +176,10 @@ first-bytes s =
     ⊎-elim (λ le. ap ticketOf (take-all (longestTicket + 1) s (omega arith)))
     (λ lt.
     ticket-alike _ s
-    (record { long = omega (arith, length-take-le (longestTicket + 1) s lt); long′ = lt; bytes = λ i h. getD-take (longestTicket + 1) s i 0 (omega arith) }))
+    (record {
+      long = omega (arith, length-take-le (longestTicket + 1) s lt);
+      long′ = lt;
+      bytes = λ i h. getD-take (longestTicket + 1) s i 0
+          (omega arith);
+    }))
     (le-or-lt (length s) longestTicket)

@@ -11,7 +11,7 @@ use lib.ListN.{getD}
 use borrow.Author.Tests.{le-leb, lt-leb}
 use Rattle.counting.specs.Counting.{bit}
 use Rattle.counting.proofs.Sums.{split, bit-one, bit-zero, sum-more}
-use Rattle.grid.specs.Limits.{longestSide}
+use Rattle.terms.specs.Limits.{longestSide}
 use Rattle.ticket.proofs.Bits.{at-place, bit-mod, standing-below, standing-le, full-standing, full-stands, pin-stands, pin-empty, pin-past}
 use Rattle.ticket.proofs.Filled.{getD-listed, listed-same}
 use Rattle.ticket.proofs.Flags.{le-or-lt}
@@ -58,7 +58,11 @@ module _ (s : List ℕ) (from p : ℕ) where
       split (stands s from (i + 1))
       (λ t.
       let less = standing-below s from p i h t in
-      rw (bit-one t) (omega (arith, net-at s (from + mapBytes p) (standing s from p) (standing s from i) less (omega (arith, standing-le s from i)), pin-stands s from p i h t)))
+      rw (bit-one t) (omega (
+        arith,
+        net-at s (from + mapBytes p) (standing s from p) (standing s from i) less (omega (arith, standing-le s from i)),
+        pin-stands s from p i h t,
+      )))
       (λ t. rw (bit-zero t) (omega (arith, pin-empty s true from p (i + 1) t)))
 
   -- a pin at each place: the list has them at their places

@@ -10,10 +10,11 @@ use borrow.Author.Tests.{eqb-true, eq-eqb, ne-eqb, not-true}
 use Rattle.counting.specs.Counting.{In, bit, count}
 use Rattle.counting.proofs.Sums.{bit-one, bit-zero, sum-some, sum-change}
 use Rattle.counting.proofs.Counts.{count-same}
-use Rattle.grid.specs.Grid.{Side, north, south, west, east, Node, pin, point}
+use Rattle.terms.specs.Kinds.{Side, north, south, west, east}
+use Rattle.grid.specs.Grid.{Node, pin, point}
+use Rattle.terms.specs.Limits.{longestSide}
 use Rattle.grid.specs.Legal.{Pins}
-use Rattle.grid.specs.Limits.{longestSide}
-use Rattle.ticket.specs.Format.{pinCount, pinCountOn}
+use Rattle.problem.specs.Problem.{pinCount, pinCountOn}
 
 abbrev sideNumber : Side → ℕ
 sideNumber north = 0
@@ -47,7 +48,8 @@ module _ (p : Pins) (m : ℕ) (s : Side) (a : ℕ) where
       let same : eqb (sideNumber s) (sideNumber s) ≡ true = eq-eqb (sideNumber s) (sideNumber s) refl in
       let no : other s a ≡ false = rw (same, eq-eqb a a refl) (and-false (eqb (p s a) m)) in
       let yes : eqb (p s a) m ≡ true = eq-eqb (p s a) m e in
-      let rest : (b : ℕ) → b ≢ a → bit (eqb (p s b) m) ≡ bit (other s b) = λ b n. rw (ne-eqb b a n) (ap bit (sym (clear (eqb (p s b) m) (eqb (sideNumber s) (sideNumber s))))) in
+      let rest : (b : ℕ) → b ≢ a → bit (eqb (p s b) m) ≡ bit (other s b) = λ b n. rw (ne-eqb b a n)
+      (ap bit (sym (clear (eqb (p s b) m) (eqb (sideNumber s) (sideNumber s))))) in
       omega (arith, bit-one yes, bit-zero no, sum-change (λ b. bit (eqb (p s b) m)) (λ b. bit (other s b)) a longestSide i rest)
 
   -- a pin of the net that is another one
@@ -63,7 +65,14 @@ module _ (p : Pins) (m : ℕ) (s : Side) (a : ℕ) where
   second-on s′ h =
       let (b, i, e) = sum-some (λ b. bit (other s′ b)) longestSide h in
       let both = and-eq-true-iff (eqb (p s′ b) m) (not (isPin s a (pin s′ b))) .0 (one (other s′ b) e) in
-      record { side = s′; place = b; on = i; net = eqb-true _ _ (both .0); different = λ q. false≢true (sym (not-true _ (both .1)) ∙ ap (isPin s a) q ∙ itself) }
+      record {
+        side = s′;
+        place = b;
+        on = i;
+        net = eqb-true _ _ (both .0);
+        different = λ q. false≢true
+            (sym (not-true _ (both .1)) ∙ ap (isPin s a) q ∙ itself);
+      }
     where
       one : (t : Bool) → 1 ≤ bit t → t ≡ true
       one true h = refl

@@ -14,11 +14,12 @@ use Rattle.counting.specs.Counting.{bit, count}
 use Rattle.counting.proofs.Sums.{split, bit-zero, sum-none, sum-more, sum-zero}
 use Rattle.counting.proofs.Counts.{count-same, count-le}
 use Rattle.grid.specs.Legal.{entry}
-use Rattle.grid.specs.Limits.{longestSide}
+use Rattle.terms.specs.Limits.{longestSide}
 use Rattle.ticket.proofs.Bits.{standing-one, standing-none, standing-le, pin-stands, pin-empty, pin-past, pin-off}
 use Rattle.ticket.proofs.Filled.{entry-listed}
 use Rattle.ticket.proofs.Laws.{unless-good, nets-good}
-use Rattle.ticket.specs.Format.{byte, stands, standing, mapBytes, goodMap, pinNet, sideNets, pinsIn, pinCount}
+use Rattle.problem.specs.Problem.{pinsIn, pinCount}
+use Rattle.ticket.specs.Format.{byte, stands, standing, mapBytes, goodMap, pinNet, sideNets}
 use Rattle.ticket.specs.Read.{goOn, netsOf, sideOf, after, northEnd, southEnd, westEnd, eastEnd, endsOf, pinsAt}
 use Rattle.ticket.specs.Steps.{times, Header, Spans, Sides}
 use Rattle.ticket.specs.declared.Cursor.{Cursor}
@@ -27,7 +28,7 @@ use Rattle.ticket.specs.declared.Ends.{Ends}
 -- ---- where a side ends
 
 -- good net bytes are all there
-nets-span : (s : List ℕ) (k i : ℕ) → i ≤ length s → netsOf s i k .number ≡ 0 → (netsOf s i k .at ≡ i + k) × (i + k ≤ length s)
+nets-span : (s : List ℕ) (k i : ℕ) → i ≤ length s → netsOf s i k .refusal .number ≡ 0 → (netsOf s i k .at ≡ i + k) × (i + k ≤ length s)
 unfolding netsOf
 nets-span s zero i l e = (omega arith, omega arith)
 nets-span s (suc k) i l e =
@@ -37,31 +38,32 @@ nets-span s (suc k) i l e =
 
 -- a side that stands was read after c
 pub record SideRead (s : List ℕ) (p : ℕ) (c : Cursor) : Type 0 where
-  pub before : c .number ≡ 0
+  pub before : c .refusal .number ≡ 0
   pub map : c .at + mapBytes p ≤ length s
-  pub nets : netsOf s (c .at + mapBytes p) (standing s (c .at) p) .number ≡ 0
+  pub nets : netsOf s (c .at + mapBytes p) (standing s (c .at) p) .refusal .number ≡ 0
   pub end : after s true p c ≡ netsOf s (c .at + mapBytes p) (standing s (c .at) p)
 
-pub side-read : (s : List ℕ) (p : ℕ) (c : Cursor) → after s true p c .number ≡ 0 → SideRead s p c
+pub side-read : (s : List ℕ) (p : ℕ) (c : Cursor) → after s true p c .refusal .number ≡ 0 → SideRead s p c
 unfolding after sideOf
 side-read s p c e =
-    by-cases (ℕ-discrete (c .number) 0)
+    by-cases (ℕ-discrete (c .refusal .number) 0)
     (λ z.
-    let here : after s true p c ≡ sideOf s (c .at) p = rw (eq-eqb (c .number) 0 z) in
-    let a = unless-good (leb (c .at + mapBytes p) (length s)) 1 (length s) _ (λ q. omega arith) (ap (λ (x : Cursor). x .number) (sym here) ∙ e) in
+    let here : after s true p c ≡ sideOf s (c .at) p = rw (eq-eqb (c .refusal .number) 0 z) in
+    let a = unless-good (leb (c .at + mapBytes p) (length s)) 1 (length s) _ (λ q. omega arith) (ap (λ (x : Cursor). x .refusal .number) (sym here) ∙ e) in
     let b = unless-good (goodMap s (c .at) p) 6 (c .at) _ (λ q. omega arith) (a .1) in
     record { before = z; map = leb-true _ _ (a .0); nets = b .1; end = here ∙ a .2 ∙ b .2 })
-    (λ n. absurd (n (rw (ne-eqb (c .number) 0 n) at e)))
+    (λ n. absurd (n (rw (ne-eqb (c .refusal .number) 0 n) at e)))
 
 side-lacking : (s : List ℕ) (p : ℕ) (c : Cursor) → after s false p c ≡ c
 unfolding after
 side-lacking s p c = rw and-false
 
-pub side-before : (s : List ℕ) (on : Bool) (p : ℕ) (c : Cursor) → after s on p c .number ≡ 0 → c .number ≡ 0
+pub side-before : (s : List ℕ) (on : Bool) (p : ℕ) (c : Cursor) → after s on p c .refusal .number ≡ 0 → c .refusal .number ≡ 0
 side-before s true p c e = side-read s p c e .before
-side-before s false p c e = ap (λ (x : Cursor). x .number) (sym (side-lacking s p c)) ∙ e
+side-before s false p c e = ap (λ (x : Cursor). x .refusal .number) (sym (side-lacking s p c)) ∙ e
 
-side-spans : (s : List ℕ) (on : Bool) (p : ℕ) (c : Cursor) → c .at ≤ length s → after s on p c .number ≡ 0 → Spans s on (c .at) p (after s on p c .at)
+side-spans : (s : List ℕ) (on : Bool) (p : ℕ) (c : Cursor) → c .at ≤ length s → after s on p c .refusal .number ≡ 0 → Spans s on (c .at) p
+    (after s on p c .at)
 side-spans s true p c l e =
     let r = side-read s p c e in
     let n = nets-span s (standing s (c .at) p) (c .at + mapBytes p) (r .map) (r .nets) in
@@ -71,7 +73,7 @@ side-spans s false p c l e =
     let end = ap (λ (x : Cursor). x .at) (side-lacking s p c) in
     record { stands = λ t. let z : _≡_ {A = ℕ} 0 1 = cc in absurd (omega arith); lacks = λ t. end; start = omega arith; size = omega arith }
 
-all-span : (s : List ℕ) → Header s → eastEnd s .number ≡ 0 → Sides s (endsOf s)
+all-span : (s : List ℕ) → Header s → eastEnd s .refusal .number ≡ 0 → Sides s (endsOf s)
 unfolding northEnd southEnd westEnd eastEnd
 all-span s h e =
     let w = side-before s _ _ (westEnd s) e in
@@ -82,8 +84,8 @@ all-span s h e =
     let west = side-spans s _ _ (southEnd s) (south .size) w in
     record { north = north; south = south; west = west; east = side-spans s _ _ (westEnd s) (west .size) e }
 
-pub sides-span : (s : List ℕ) {ends : Ends} → Header s → ends ≡ endsOf s → ends .east .number ≡ 0 → Sides s ends
-sides-span s h q e = subst (Sides s) (sym q) (all-span s h (ap (λ (x : Ends). x .east .number) (sym q) ∙ e))
+pub sides-span : (s : List ℕ) {ends : Ends} → Header s → ends ≡ endsOf s → ends .east .refusal .number ≡ 0 → Sides s ends
+sides-span s h q e = subst (Sides s) (sym q) (all-span s h (ap (λ (x : Ends). x .east .refusal .number) (sym q) ∙ e))
 
 module _ {s : List ℕ} {on : Bool} {from p end : ℕ} where
   pub spans-as : {on′ : Bool} → on′ ≡ on → Spans s on from p end → Spans s on′ from p end
@@ -93,7 +95,8 @@ module _ {s : List ℕ} {on : Bool} {from p end : ℕ} where
   pub span-asks : p ≤ longestSide → Spans s on from p end
       → (p ≤ longestSide) × (from ≤ length s) × (end ≤ length s) × (end ≤ from + mapBytes p + longestSide)
   span-asks few w =
-      let most : end ≤ from + mapBytes p + longestSide = split on (λ t. omega (arith, w .stands t, standing-le s from p)) (λ t. omega (arith, w .lacks t)) in
+      let most : end ≤ from + mapBytes p + longestSide = split on (λ t. omega (arith, w .stands t, standing-le s from p))
+      (λ t. omega (arith, w .lacks t)) in
       (few, omega (arith, w .start, w .size), w .size, most)
 
   pub span-most : (v : ℕ) → p ≤ longestSide → Spans s on from p end → times s v (from + mapBytes p) (end - (from + mapBytes p)) ≤ longestSide
@@ -121,9 +124,22 @@ module _ (s : List ℕ) (from p v : ℕ) (some : v ≢ 0) where
       (λ t.
       let back : k ≡ k + 1 - 1 = omega arith in
       let net = pin-stands s from p i h t ∙ ap (λ (x : ℕ). byte s (from + mapBytes p + x)) back in
-      omega (arith, sum-more holds i, sum-more listed-as k, ap (times s v (from + mapBytes p)) (standing-one s from i t), ap (λ (x : ℕ). bit (eqb x v)) net))
+      omega (
+        arith,
+        sum-more holds i,
+        sum-more listed-as k,
+        ap (times s v (from + mapBytes p)) (standing-one s from i t),
+        ap
+            (λ (x : ℕ). bit (eqb x v)) net,
+      ))
       (λ t.
-      omega (arith, sum-more holds i, ap (times s v (from + mapBytes p)) (standing-none s from i t), zero-is-not _ v some (pin-empty s true from p (i + 1) t)))
+      omega (
+        arith,
+        sum-more holds i,
+        ap (times s v (from + mapBytes p)) (standing-none s from i t),
+        zero-is-not _ v some
+            (pin-empty s true from p (i + 1) t),
+      ))
 
   count-places : (i : ℕ) → i ≤ p → count (λ a. eqb (pinNet s true from p a) v) i ≡ times s v (from + mapBytes p) (standing s from i)
   count-places zero h = sum-none holds ∙ sym (ap (times s v (from + mapBytes p)) (sum-none (λ a. bit (stands s from a))) ∙ sum-none listed-as)

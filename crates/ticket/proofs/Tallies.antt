@@ -34,7 +34,8 @@ pub tally-none : {c₀ s : List ℕ} {from k : ℕ} → k ≡ 0 → length c₀ 
 tally-none {c₀} {s} {from} z e =
     record { size = e; counts = λ v h. omega (arith, ap (times s v from) z, sum-none (λ j. bit (eqb (byte s (from + (j - 1))) v))) }
 
-pub tally-more : {c₀ s c : List ℕ} {from i : ℕ} → from ≤ i → byte s i < 256 → Tally c₀ s from (i - from) c → Tally c₀ s from (i + 1 - from) (bumped c (byte s i))
+pub tally-more : {c₀ s c : List ℕ} {from i : ℕ} → from ≤ i → byte s i < 256 → Tally c₀ s from (i - from) c → Tally c₀ s from (i + 1 - from)
+    (bumped c (byte s i))
 tally-more {c₀} {s} {c} {from} {i} le small w =
     record {
       size = simp length-set (w .size);

@@ -1,4 +1,3 @@
 pub mod Format
 pub mod Read
-pub mod Good
 pub mod Steps

@@ -4,7 +4,8 @@
 --   netList s from k       the k bytes from byte from on, and 0 past them, as 90 numbers
 --   times s v from k       how often v stands in the k bytes from byte from on
 --   Header s               the header's ranges
---   Spans s on from p end  a side of p places that stands (on) has its map and its nets from byte from to byte end of the ticket; one that does not has no byte
+--   Spans s on from p end  a side of p places that stands (on) has its map and its nets from byte from to byte end of the ticket; one
+--                          that does not has no byte
 --   Sides s e              all four sides, each from the end of the one before
 use Prim.Native.Nat.{ℕ, _+_, _-_, _≤_}
 use mathlib.Core.Path.{_≡_}
@@ -13,7 +14,7 @@ use mathlib.Core.List.{List}
 use lib.ListN.{length}
 use lib.Dec.{leb, eqb}
 use Rattle.counting.specs.Counting.{In, count}
-use Rattle.grid.specs.Limits.{longestSide}
+use Rattle.terms.specs.Limits.{longestSide}
 use Rattle.ticket.specs.Format.{byte, isOn, standing, mapBytes, goodMap, listed}
 use Rattle.ticket.specs.declared.Ends.{Ends}
 

@@ -1,29 +1,38 @@
 // The ticket reader: what a ticket's bytes say, or why they are refused. Public calls: read, and parse, which gives the pins as well.
 use grid::Column;
-use grid::LONGEST_SIDE;
-use grid::is_within;
+use problem::Pins;
+use problem::Problem;
+use terms::BYTE_VALUES;
+use terms::LARGEST_NET;
+use terms::LONGEST_SIDE;
+use terms::Refusal;
+use terms::both;
+use terms::either;
+use terms::is_kind;
+use terms::is_within;
+use terms::largest_byte2;
+use terms::largest_side_map;
+use terms::wide;
 ghost use mathlib.Core.Path.{_≡_};
 ghost use Prim.Native.Nat.{ℕ, _+_, _-_, _*_, _/_, _^_, _≤_, _<_};
 ghost use lib.ListN.{length, getD};
 ghost use lib.Dec.{leb, eqb};
 ghost use mathlib.Core.Bool.{true, false, cond, _&&_};
-ghost use Rattle.grid.specs.Legal.{topNet};
-ghost use Rattle.counting.specs.Counting.{In, count};
-ghost use Rattle.ticket.specs.Format.{largestByte2, largestSideMap, isOn, standing, mapBytes, sideNets, pinCount, pinsIn, least};
-ghost use Rattle.ticket.specs.Read.{refusal, goOn, unless, fieldsOf, headerOf, netsOf, sideOf, after, endsOf, pinsAt, leftOver, noLone, refusedTicket, acceptedTicket, judged, ticketOf, readOf};
+ghost use Rattle.terms.specs.Limits.{longestSide, largestNet, byteValues};
+ghost use Rattle.terms.specs.Refusals.{unless};
+ghost use Rattle.counting.specs.Counting.{In, count, least};
+ghost use Rattle.problem.specs.Problem.{pinCount, pinsIn};
+ghost use Rattle.ticket.specs.Format.{isOn, standing, mapBytes, sideNets};
+ghost use Rattle.ticket.specs.Read.{stop, goOn, fieldsOf, headerOf, netsOf, sideOf, after, endsOf, pinsAt, leftOver, noLone};
+ghost use Rattle.ticket.specs.Read.{refusedReading, acceptedReading, problemAt, judged, ticketOf, readOf};
 ghost use Rattle.ticket.specs.Steps.{mapCount, times, netList, Header, Spans, Sides};
-
-pub const MOST_TRUNK_LAYERS: usize = 8;
-
-pub const TOP_NET: usize = 180;
 
 // Read accepts no longer list, and one byte more than this of any list tells its whole reading: `longest`, `first-bytes` of proofs/Longest.
 pub const LONGEST_TICKET: usize = 412;
 
-// Where reading stands: number 0 and the next byte to read, or a refusal's number and place.
+// Where reading stands: nothing refused and the next byte to read, or a refusal.
 struct Cursor {
-    pub number: u8,
-    pub place: usize,
+    pub refusal: Refusal,
     pub at: usize,
 }
 
@@ -35,88 +44,56 @@ struct Ends {
     pub east: Cursor,
 }
 
-// The nets of the four sides: place i at index i - 1, 0 where a place is empty.
-pub struct Pins {
-    pub north: [u8; 90],
-    pub south: [u8; 90],
-    pub west: [u8; 90],
-    pub east: [u8; 90],
-}
-
 pub struct ReadAnswer {
-    pub number: u8,
-    pub place: usize,
+    pub refusal: Refusal,
     pub kind: u8,
     pub n: Column,
     pub byte2: u8,
     pub nets: u8,
 }
 
-pub struct Ticket {
-    pub answer: ReadAnswer,
-    pub pins: Pins,
+// A refusal, or the problem that the ticket states.
+pub struct Reading {
+    pub refusal: Refusal,
+    pub problem: Problem,
 }
 
 fn go_on(at: usize) -> Cursor
     ensures { λ r. ⌜ r ≡ goOn at ⌝ }
 {
     Cursor {
-        number: 0,
-        place: 0,
+        refusal: Refusal {
+            number: 0,
+            place: 0,
+        },
         at,
     }
 }
 
-fn refuse(number: u8, place: usize) -> Cursor
-    ensures { λ r. ⌜ r ≡ refusal number place ⌝ }
+fn stop(number: u8, place: usize) -> Cursor
+    ensures { λ r. ⌜ r ≡ stop number place ⌝ }
 {
     Cursor {
-        number,
-        place,
+        refusal: Refusal { number, place },
         at: 0,
     }
 }
 
 // Refuses, unless the test holds: then reading stands as `rest` says.
 fn unless(test: bool, number: u8, place: usize, rest: Cursor) -> Cursor
-    ensures { λ r. ⌜ r ≡ unless test number place rest ⌝ }
+    ensures { λ r. ⌜ r ≡ unless test (stop number place) rest ⌝ }
 {
-    if test { rest } else { refuse(number, place) }
-}
-
-fn wide(x: u8) -> usize
-    ensures { λ r. ⌜ r ≡ x ⌝ }
-{
-    x as usize
-}
-
-fn largest_byte2(kind: u8) -> usize
-    ensures { λ r. ⌜ r ≡ largestByte2 kind ⌝ }
-{
-    if kind == 3 {
-        LONGEST_SIDE
-    } else {
-        MOST_TRUNK_LAYERS
-    }
-}
-
-fn largest_side_map(kind: u8) -> u8
-    ensures { λ r. ⌜ r ≡ largestSideMap kind ⌝ }
-{
-    if kind == 1 {
-        return 1;
-    }
-    if kind == 2 { 3 } else { 15 }
+    if test { rest } else { stop(number, place) }
 }
 
 // The last test of the header comes first here, so that the first one has the last word.
 fn fields(kind: u8, n: u8, byte2: u8, map: u8) -> Cursor
     ensures { λ r. ⌜ r ≡ fieldsOf kind n byte2 map ⌝ }
 {
-    let c = unless(map <= largest_side_map(kind), 5, 3, go_on(4));
+    let c = unless(wide(map) <= largest_side_map(kind), 5, 3, go_on(4));
     let c = unless(is_within(wide(byte2), largest_byte2(kind)), 4, 2, c);
     let c = unless(is_within(wide(n), LONGEST_SIDE), 3, 1, c);
-    unless(is_within(wide(kind), 3), 2, 0, c)
+    unless(is_kind(kind), 2, 0, c)
 }
 
 fn header(ticket: &[u8]) -> Cursor
@@ -124,7 +101,7 @@ fn header(ticket: &[u8]) -> Cursor
 {
     let size = ticket.len();
     if size < 4 {
-        return refuse(1, size);
+        return stop(1, size);
     }
     fields(ticket[0], ticket[1], ticket[2], ticket[3])
 }
@@ -161,7 +138,7 @@ fn ones_in(ticket: &[u8], at: usize, bytes: usize) -> usize
 
 // How many bits of a map stand, which is how many net bytes follow it; 0 where a spare bit stands.
 fn map_count(ticket: &[u8], at: usize, places: usize) -> usize
-    requires { ⌜ (1 ≤ places) × (places ≤ 90) × (at + mapBytes places ≤ length (now ticket)) ⌝ }
+    requires { ⌜ (1 ≤ places) × (places ≤ longestSide) × (at + mapBytes places ≤ length (now ticket)) ⌝ }
     ensures { λ r. ⌜ r ≡ mapCount (now (ticket .entry)) at places ⌝ }
 {
     let bytes = (places + 7) / 8;
@@ -172,12 +149,6 @@ fn map_count(ticket: &[u8], at: usize, places: usize) -> usize
     ones_in(ticket, at, bytes)
 }
 
-fn both(a: bool, b: bool) -> bool
-    ensures { λ r. ⌜ r ≡ (a && b) ⌝ }
-{
-    if a { b } else { false }
-}
-
 // Whether `count` bytes from byte `from` on are all nets. It has no way out before the end, so that many bytes are tested at once.
 fn all_nets(ticket: &[u8], from: usize, count: usize) -> bool
     requires { ⌜ (count ≤ 96) × (from + count ≤ length (now ticket)) ⌝ }
@@ -186,7 +157,7 @@ fn all_nets(ticket: &[u8], from: usize, count: usize) -> bool
     let mut good = true;
     let mut i: usize = 0;
     while i < count {
-        good = both(good, is_within(wide(ticket[from + i]), TOP_NET));
+        good = both(good, is_within(wide(ticket[from + i]), LARGEST_NET));
         i += 1;
     }
     good
@@ -202,10 +173,10 @@ fn nets(ticket: &[u8], from: usize, count: usize) -> Cursor
     let mut left = count;
     while 0 < left {
         if ticket.len() <= at {
-            return refuse(1, ticket.len());
+            return stop(1, ticket.len());
         }
-        if !is_within(wide(ticket[at]), TOP_NET) {
-            return refuse(7, at);
+        if !is_within(wide(ticket[at]), LARGEST_NET) {
+            return stop(7, at);
         }
         at += 1;
         left -= 1;
@@ -229,28 +200,28 @@ fn net_bytes(ticket: &[u8], from: usize, count: usize) -> Cursor
 
 // A side whose map starts at byte `at`.
 fn side(ticket: &[u8], at: usize, places: usize) -> Cursor
-    requires { ⌜ (1 ≤ places) × (places ≤ 90) × (at ≤ length (now ticket)) ⌝ }
+    requires { ⌜ (1 ≤ places) × (places ≤ longestSide) × (at ≤ length (now ticket)) ⌝ }
     ensures meets { λ r. ⌜ r ≡ sideOf (now (ticket .entry)) at places ⌝ }
     ensures inside { λ r. ⌜ r .at ≤ length (now (ticket .entry)) ⌝ }
 {
     let bytes = (places + 7) / 8;
     if ticket.len() - at < bytes {
-        return refuse(1, ticket.len());
+        return stop(1, ticket.len());
     }
     let count = map_count(ticket, at, places);
     if count == 0 {
-        return refuse(6, at);
+        return stop(6, at);
     }
     net_bytes(ticket, at + bytes, count)
 }
 
 // The next side, read where it stands and nothing is refused before it.
 fn after(ticket: &[u8], stands: bool, places: usize, c: Cursor) -> Cursor
-    requires { ⌜ (1 ≤ places) × (places ≤ 90) × (c .at ≤ length (now ticket)) ⌝ }
+    requires { ⌜ (1 ≤ places) × (places ≤ longestSide) × (c .at ≤ length (now ticket)) ⌝ }
     ensures meets { λ r. ⌜ r ≡ after (now (ticket .entry)) stands places c ⌝ }
     ensures inside { λ r. ⌜ r .at ≤ length (now (ticket .entry)) ⌝ }
 {
-    if c.number != 0 {
+    if c.refusal.number != 0 {
         return c;
     }
     if stands {
@@ -281,11 +252,11 @@ fn sides(ticket: &[u8]) -> Ends
 }
 
 // The net bytes of a side in rising order of place, and 0 past them.
-fn net_list(ticket: &[u8], from: usize, count: usize) -> [u8; 90]
-    requires { ⌜ (count ≤ 90) × (from + count ≤ length (now ticket)) ⌝ }
+fn net_list(ticket: &[u8], from: usize, count: usize) -> [u8; LONGEST_SIDE]
+    requires { ⌜ (count ≤ longestSide) × (from + count ≤ length (now ticket)) ⌝ }
     ensures { λ r. ⌜ r ≡ netList (now (ticket .entry)) from count ⌝ }
 {
-    let mut list = [0u8; 90];
+    let mut list = [0u8; LONGEST_SIDE];
     let mut i: usize = 0;
     while i < count {
         list[i] = ticket[from + i];
@@ -295,12 +266,17 @@ fn net_list(ticket: &[u8], from: usize, count: usize) -> [u8; 90]
 }
 
 // The nets of a side whose map starts at byte `at`, each at its place. It does not branch on the map's bits, which took longer.
-fn side_nets(ticket: &[u8], at: usize, places: usize, nets: [u8; 90]) -> [u8; 90]
-    requires { ⌜ (places ≤ 90) × (at + mapBytes places ≤ length (now ticket)) ⌝ }
+fn side_nets(
+    ticket: &[u8],
+    at: usize,
+    places: usize,
+    nets: [u8; LONGEST_SIDE],
+) -> [u8; LONGEST_SIDE]
+    requires { ⌜ (places ≤ longestSide) × (at + mapBytes places ≤ length (now ticket)) ⌝ }
     requires { ⌜ nets ≡ netList (now ticket) (at + mapBytes places) (standing (now ticket) at places) ⌝ }
     ensures { λ r. ⌜ r ≡ sideNets (now (ticket .entry)) true at places ⌝ }
 {
-    let mut list = [0u8; 90];
+    let mut list = [0u8; LONGEST_SIDE];
     let mut next: usize = 0;
     let mut i: usize = 0;
     while i < places {
@@ -313,12 +289,18 @@ fn side_nets(ticket: &[u8], at: usize, places: usize, nets: [u8; 90]) -> [u8; 90
 }
 
 // The nets of a side from byte `at` to byte `end`. Where it has a pin at each place, its net bytes are that list.
-fn side_list(ticket: &[u8], stands: bool, at: usize, end: usize, places: usize) -> [u8; 90]
-    requires { ⌜ (places ≤ 90) × Spans (now ticket) stands at places end ⌝ }
+fn side_list(
+    ticket: &[u8],
+    stands: bool,
+    at: usize,
+    end: usize,
+    places: usize,
+) -> [u8; LONGEST_SIDE]
+    requires { ⌜ (places ≤ longestSide) × Spans (now ticket) stands at places end ⌝ }
     ensures { λ r. ⌜ r ≡ sideNets (now (ticket .entry)) stands at places ⌝ }
 {
     if !stands {
-        return [0u8; 90];
+        return [0u8; LONGEST_SIDE];
     }
     let from = at + (places + 7) / 8;
     let count = end - from;
@@ -350,11 +332,20 @@ fn pins_at(ticket: &[u8], ends: Ends) -> Pins
     }
 }
 
-// The counts of each number, with those of the net bytes of a side added. A side that does not stand ends where it starts, before any net byte.
-fn tally(counts: [u16; 256], ticket: &[u8], at: usize, end: usize, places: usize) -> [u16; 256]
-    requires { ⌜ ((v : ℕ) → v < 256 → getD counts v 0 ≤ 270) ⌝ }
-    requires { ⌜ (places ≤ 90) × (at ≤ length (now ticket)) × (end ≤ length (now ticket)) × (end ≤ at + mapBytes places + 90) ⌝ }
-    ensures { λ r. ⌜ ((v : ℕ) → v < 256 → getD r v 0 ≡ getD counts v 0 + times (now (ticket .entry)) v (at + mapBytes places) (end - (at + mapBytes places))) ⌝ }
+// The counts of each number, with those of the net bytes of a side added. A side that does not stand ends where it starts, before any net
+// byte.
+fn tally(
+    counts: [u16; BYTE_VALUES],
+    ticket: &[u8],
+    at: usize,
+    end: usize,
+    places: usize,
+) -> [u16; BYTE_VALUES]
+    requires { ⌜ ((v : ℕ) → v < byteValues → getD counts v 0 ≤ 3 * longestSide) ⌝ }
+    requires { ⌜ (places ≤ longestSide) × (at ≤ length (now ticket)) × (end ≤ length (now ticket)) ×
+        (end ≤ at + mapBytes places + longestSide) ⌝ }
+    ensures { λ r. ⌜ ((v : ℕ) → v < byteValues → getD r v 0 ≡ getD counts v 0 + times (now (ticket .entry)) v (at + mapBytes places)
+        (end - (at + mapBytes places))) ⌝ }
 {
     let mut c = counts;
     let mut i: usize = at + (places + 7) / 8;
@@ -367,32 +358,26 @@ fn tally(counts: [u16; 256], ticket: &[u8], at: usize, end: usize, places: usize
 }
 
 // How many pins each net has, counted where the ticket lists them; what stands at 0 is not used.
-fn tally_all(ticket: &[u8], ends: Ends) -> [u16; 256]
+fn tally_all(ticket: &[u8], ends: Ends) -> [u16; BYTE_VALUES]
     requires { ⌜ Header (now ticket) ⌝ }
     requires { ⌜ Sides (now ticket) ends ⌝ }
-    ensures { λ r. ⌜ ((v : ℕ) → In v topNet → getD r v 0 ≡ pinCount (pinsIn (pinsAt (now (ticket .entry)) ends)) v) ⌝ }
+    ensures { λ r. ⌜ ((v : ℕ) → In v largestNet → getD r v 0 ≡ pinCount (pinsIn (pinsAt (now (ticket .entry)) ends)) v) ⌝ }
 {
     let n = ticket[1] as usize;
     let w = ticket[2] as usize;
-    let c = tally([0u16; 256], ticket, 4, ends.north.at, n);
+    let c = tally([0u16; BYTE_VALUES], ticket, 4, ends.north.at, n);
     let c = tally(c, ticket, ends.north.at, ends.south.at, n);
     let c = tally(c, ticket, ends.south.at, ends.west.at, w);
     tally(c, ticket, ends.west.at, ends.east.at, w)
 }
 
-fn either(a: bool, b: bool) -> bool
-    ensures { λ r. ⌜ r ≡ cond a true b ⌝ }
-{
-    if a { true } else { b }
-}
-
 // Whether a net has one pin. It has no way out before the end, so that many nets are tested at once.
-fn has_lone(counts: [u16; 256]) -> bool
-    ensures { λ r. ⌜ (r ≡ false → least (λ v. eqb (getD counts v 0) 1) topNet ≡ 0) ⌝ }
+fn has_lone(counts: [u16; BYTE_VALUES]) -> bool
+    ensures { λ r. ⌜ (r ≡ false → least (λ v. eqb (getD counts v 0) 1) largestNet ≡ 0) ⌝ }
 {
     let mut some = false;
     let mut v: usize = 0;
-    while v < TOP_NET {
+    while v < LARGEST_NET {
         v += 1;
         some = either(some, counts[v] == 1);
     }
@@ -400,11 +385,11 @@ fn has_lone(counts: [u16; 256]) -> bool
 }
 
 // The smallest net with one pin, 0 where there is none, net by net.
-fn lone(counts: [u16; 256]) -> usize
-    ensures { λ r. ⌜ r ≡ least (λ v. eqb (getD counts v 0) 1) topNet ⌝ }
+fn lone(counts: [u16; BYTE_VALUES]) -> usize
+    ensures { λ r. ⌜ r ≡ least (λ v. eqb (getD counts v 0) 1) largestNet ⌝ }
 {
     let mut v: usize = 0;
-    while v < TOP_NET {
+    while v < LARGEST_NET {
         v += 1;
         if counts[v] == 1 {
             return v;
@@ -413,19 +398,19 @@ fn lone(counts: [u16; 256]) -> usize
     0
 }
 
-fn lone_net(counts: [u16; 256]) -> usize
-    ensures { λ r. ⌜ r ≡ least (λ v. eqb (getD counts v 0) 1) topNet ⌝ }
+fn lone_net(counts: [u16; BYTE_VALUES]) -> usize
+    ensures { λ r. ⌜ r ≡ least (λ v. eqb (getD counts v 0) 1) largestNet ⌝ }
 {
     if has_lone(counts) { lone(counts) } else { 0 }
 }
 
 // How many nets have pins.
-fn distinct(counts: [u16; 256]) -> u8
-    ensures { λ r. ⌜ r ≡ count (λ v. leb 1 (getD counts v 0)) topNet ⌝ }
+fn distinct(counts: [u16; BYTE_VALUES]) -> u8
+    ensures { λ r. ⌜ r ≡ count (λ v. leb 1 (getD counts v 0)) largestNet ⌝ }
 {
     let mut total: u8 = 0;
     let mut v: usize = 0;
-    while v < TOP_NET {
+    while v < LARGEST_NET {
         v += 1;
         if 1 <= counts[v] {
             total += 1;
@@ -446,74 +431,76 @@ fn no_lone(lone: usize) -> Cursor
     unless(lone == 0, 9, lone, go_on(0))
 }
 
-fn refused(c: Cursor) -> Ticket
-    ensures { λ r. ⌜ r ≡ refusedTicket c ⌝ }
+fn refused(c: Cursor) -> Reading
+    ensures { λ r. ⌜ r ≡ refusedReading c ⌝ }
 {
-    let empty = [0u8; 90];
-    Ticket {
-        answer: ReadAnswer {
-            number: c.number,
-            place: c.place,
+    let refusal = c.refusal;
+    let empty = [0u8; LONGEST_SIDE];
+    Reading {
+        refusal,
+        problem: Problem {
             kind: 0,
             n: Column(0),
             byte2: 0,
             nets: 0,
-        },
-        pins: Pins {
-            north: empty,
-            south: empty,
-            west: empty,
-            east: empty,
+            pins: Pins {
+                north: empty,
+                south: empty,
+                west: empty,
+                east: empty,
+            },
         },
     }
 }
 
-fn accepted(ticket: &[u8], nets: u8, pins: Pins) -> Ticket
+fn accepted(ticket: &[u8], nets: u8, pins: Pins) -> Reading
     requires { ⌜ Header (now ticket) ⌝ }
-    ensures { λ r. ⌜ r ≡ acceptedTicket (now (ticket .entry)) nets pins ⌝ }
+    ensures { λ r. ⌜ r ≡ acceptedReading (problemAt (now (ticket .entry)) nets pins) ⌝ }
 {
-    Ticket {
-        answer: ReadAnswer {
+    Reading {
+        refusal: Refusal {
             number: 0,
             place: 0,
+        },
+        problem: Problem {
             kind: ticket[0],
             n: Column(ticket[1] as usize),
             byte2: ticket[2],
             nets,
+            pins,
         },
-        pins,
     }
 }
 
 // The last test, once all bytes are read.
-fn judged(ticket: &[u8], ends: Ends) -> Ticket
+fn judged(ticket: &[u8], ends: Ends) -> Reading
     requires { ⌜ Header (now ticket) ⌝ }
     requires { ⌜ Sides (now ticket) ends ⌝ }
     ensures { λ r. ⌜ r ≡ judged (now (ticket .entry)) (pinsAt (now (ticket .entry)) ends) ⌝ }
 {
     let counts = tally_all(ticket, ends);
     let last = no_lone(lone_net(counts));
-    if last.number != 0 {
+    if last.refusal.number != 0 {
         return refused(last);
     }
     accepted(ticket, distinct(counts), pins_at(ticket, ends))
 }
 
 // The whole reading, with the pins: for the crates that go on from a good reading.
-pub fn parse(ticket: &[u8]) -> Ticket
+pub fn parse(ticket: &[u8]) -> Reading
     ensures { λ r. ⌜ r ≡ ticketOf (now (ticket .entry)) ⌝ }
 {
     let head = header(ticket);
-    if head.number != 0 {
+    if head.refusal.number != 0 {
         return refused(head);
     }
     let ends = sides(ticket);
     let end = ends.east;
-    if end.number != 0 {
+    if end.refusal.number != 0 {
         return refused(end);
     }
     let whole = left_over(ticket, end.at);
-    if whole.number != 0 {
+    if whole.refusal.number != 0 {
         return refused(whole);
     }
     judged(ticket, ends)
@@ -524,5 +511,13 @@ pub fn read(ticket: &[u8]) -> ReadAnswer
     ensures { λ r. ⌜ r ≡ readOf (now (ticket .entry)) ⌝ }
 {
     let whole = parse(ticket);
-    whole.answer
+    let refusal = whole.refusal;
+    let n = whole.problem.n;
+    ReadAnswer {
+        refusal,
+        kind: whole.problem.kind,
+        n,
+        byte2: whole.problem.byte2,
+        nets: whole.problem.nets,
+    }
 }

@@ -60,7 +60,8 @@ contains-left : (s : Span) → s .left ≤ s .right → contains s (s .left) ≡
 contains-left s h = rw (le-leb (s .left) (s .left) (omega arith), le-leb (s .left) (s .right) h)
 
 contains-le : (s : Span) (c : ℕ) → contains s c ≤ 1
-contains-le s c = split (leb (s .left) c) (λ e. split (leb c (s .right)) (λ f. rw (e, f) (omega arith)) (λ f. rw (e, f) (omega arith))) (λ e. rw e (omega arith))
+contains-le s c = split (leb (s .left) c) (λ e. split (leb c (s .right)) (λ f. rw (e, f) (omega arith)) (λ f. rw (e, f) (omega arith)))
+    (λ e. rw e (omega arith))
 
 -- the spans from column m on, in a state of the packing, with b places
 pub record Ready (p : Packing) (ss : List Span) (m b : ℕ) : Type 0 where
@@ -108,7 +109,8 @@ module _ (p : Packing) (s : Span) (ss : List Span) (m b : ℕ) (few : b ≤ 180)
     -- what is before l once s has its place was before it already
     before : (q l : ℕ) → getD (set (p .lasts) at (s .right)) q 0 < l → getD (p .lasts) q 0 < l
     before q l h = by-cases (ℕ-discrete q at)
-        (λ e. let k = rw (e, getD-set-same (p .lasts) at (s .right) 0 (omega (arith, at-small, w .lasts-size))) at h in rw e (omega (arith, below, first .1)))
+        (λ e. let k = rw (e, getD-set-same (p .lasts) at (s .right) 0 (omega (arith, at-small, w .lasts-size))) at h in rw e
+        (omega (arith, below, first .1)))
         (λ ne. rw (getD-set-other (p .lasts) at q (s .right) 0 ne) at h)
 
     ended : (t : Span) → List·Memᴰ t ss → getD r (s .net) 0 ≡ getD r (t .net) 0 → s .right < t .left

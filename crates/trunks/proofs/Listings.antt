@@ -5,7 +5,8 @@ use native.Mathlib.Decide.{ℕ-discrete}
 use native.Mathlib.Numerals.{add-one}
 use mathlib.Core.Path.{_≡_, refl, sym, ap, _∙_}
 use mathlib.Core.Logic.{_≢_, by-cases, ⊎-elim}
-use mathlib.Core.List.{List, [], _∷_, _++_, List·Memᴰ, List·Memᴰ·head, List·Memᴰ·tail, List·Memᴰ·not-nil, List·Memᴰ·append-cases, List·Memᴰ·eq-of-singleton, Memᴰ·append-left, Memᴰ·append-right}
+use mathlib.Core.List.{List, [], _∷_, _++_, List·Memᴰ, List·Memᴰ·head, List·Memᴰ·tail, List·Memᴰ·not-nil, List·Memᴰ·append-cases}
+use mathlib.Core.List.{List·Memᴰ·eq-of-singleton, Memᴰ·append-left, Memᴰ·append-right}
 use lib.ListN.{length, getD, set, take, length-set, replicate, length-take, length-replicate}
 use lib.Seq.{getD-set-same, getD-set-other, take-suc-set}
 use Rattle.counting.specs.Counting.{In}
@@ -101,9 +102,11 @@ module _ (pin : ℕ → ℕ) (q : ℕ) (left right : List ℕ) (ss : List Span) 
     there b ne = getD-set-other left m b (column q) 0 ne
 
     other : (s : Span) → List·Memᴰ s ss → s .net ≢ m
-    other s i z = let (same, one, lt) = l .each s i in let z′ : s .left ≡ 0 = ap (λ (u : Span). u .left) same ∙ ap (λ (b : ℕ). getD left b 0) z ∙ new in omega arith
+    other s i z = let (same, one, lt) = l .each s i in let z′ : s .left ≡ 0 = ap (λ (u : Span). u .left) same ∙ ap (λ (b : ℕ). getD left b 0) z
+        ∙ new in omega arith
 
-    pub list-met : (ss′ : List Span) → ((s : Span) → List·Memᴰ s ss′ → (s ≡ spanOf left′ right (s .net)) × (1 ≤ s .left) × (s .left < s .right)) → Ordered ss′
+    pub list-met : (ss′ : List Span) → ((s : Span) → List·Memᴰ s ss′ → (s ≡ spanOf left′ right (s .net)) × (1 ≤ s .left) × (s .left < s .right))
+        → Ordered ss′
         → ((b : ℕ) → b ≢ m → List·Memᴰ (spanOf left right b) ss → List·Memᴰ (spanOf left right b) ss′) →
         (column q < getD right m 0 → List·Memᴰ (spanOf left′ right m) ss′) → Listed pin (q + 1) left′ right ss′
     list-met ss′ each ordered old now = record {
@@ -131,7 +134,8 @@ module _ (pin : ℕ → ℕ) (q : ℕ) (left right : List ℕ) (ss : List Span) 
     list-mark end = list-met ss kept (l .ordered) (λ b ne i. i) (λ lt. absurd (omega arith))
 
     pub list-more : column q < getD right m 0 → Listed pin (q + 1) left′ right (ss ++ (record { net = m; left = column q; right = getD right m 0 } ∷ []))
-    list-more lt = list-met (ss ++ (s₀ ∷ [])) each (ordered-more ss s₀ (l .ordered) (λ t i. (before t i, other t i))) (λ b ne i. Memᴰ·append-left (s₀ ∷ []) i)
+    list-more lt = list-met (ss ++ (s₀ ∷ [])) each (ordered-more ss s₀ (l .ordered) (λ t i. (before t i, other t i)))
+        (λ b ne i. Memᴰ·append-left (s₀ ∷ []) i)
         (λ lt. Memᴰ·append-right ss (List·Memᴰ·head same))
       where
         s₀ : Span

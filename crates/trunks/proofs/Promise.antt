@@ -12,7 +12,7 @@ use lib.Dec.{eqb, leb, ltb}
 use borrow.Author.Tests.{eq-eqb, ne-eqb, le-leb, lt-ltb}
 use Rattle.counting.specs.Counting.{In}
 use Rattle.counting.proofs.Sums.{split}
-use Rattle.grid.specs.Legal.{topNet}
+use Rattle.terms.specs.Limits.{largestNet}
 use Rattle.trunks.specs.declared.Span.{Span}
 use Rattle.trunks.specs.declared.Trunks.{Trunks}
 use Rattle.trunks.specs.Packing.{freshPacking, packed, Packable}
@@ -38,16 +38,17 @@ pin-of north south n (suc c) m h (inr e) = (2 * c + 1, omega arith, pin-south no
 of-pin : (north south : List ℕ) (q c m : ℕ) → c ≡ column q → pinAt north south q ≡ m → PinIn north south c m
 of-pin north south q c m k f = rw (k, add-one (q / 2), ← f) (split (eqb (q % 2) 0) (λ e. inl (rw e)) (λ e. inr (rw e)))
 
-pin-small : (north south : List ℕ) → ((a : ℕ) → getD north a 0 ≤ topNet) → ((a : ℕ) → getD south a 0 ≤ topNet) → (q : ℕ) → pinAt north south q ≤ topNet
+pin-small : (north south : List ℕ) → ((a : ℕ) → getD north a 0 ≤ largestNet) → ((a : ℕ) → getD south a 0 ≤ largestNet) → (q : ℕ)
+    → pinAt north south q ≤ largestNet
 pin-small north south hn hs q = split (eqb (q % 2) 0) (λ e. rw e (hn (q / 2))) (λ e. rw e (hs (q / 2)))
 
-module _ (north south : List ℕ) (n : ℕ) (hn : (a : ℕ) → getD north a 0 ≤ topNet) (hs : (a : ℕ) → getD south a 0 ≤ topNet)
+module _ (north south : List ℕ) (n : ℕ) (hn : (a : ℕ) → getD north a 0 ≤ largestNet) (hs : (a : ℕ) → getD south a 0 ≤ largestNet)
     (left right : List ℕ) (ss : List Span) (size : length ss ≤ 180) (r : Rights (pinAt north south) (2 * n) right)
     (l : Listed (pinAt north south) (2 * n) left right ss) where
   abbrev trunks : Trunks
   trunks = record { left = left; right = right; place = packed freshPacking ss .place }
 
-  few : (m : ℕ) → getD left m 0 < getD right m 0 → In m topNet × (1 ≤ getD left m 0)
+  few : (m : ℕ) → getD left m 0 < getD right m 0 → In m largestNet × (1 ≤ getD left m 0)
   few m h =
       let (e, q, p, c) = r .from m (omega arith) in
       let nz : m ≢ 0 = λ z. absurd (omega (arith, r .none, ap (λ (b : ℕ). getD right b 0) z)) in
@@ -87,20 +88,21 @@ module _ (north south : List ℕ) (n : ℕ) (hn : (a : ℕ) → getD north a 0 �
       member : (m : ℕ) → getD left m 0 < getD right m 0 → List·Memᴰ (spanOf left right m) ss
       member m h = l .all m (few m h .1) h
 
-      apart : (m m′ c : ℕ) → Crosses trunks m c → Crosses trunks m′ c → getD (packed freshPacking ss .place) m 0 ≡ getD (packed freshPacking ss .place) m′ 0 → m ≡ m′
+      apart : (m m′ c : ℕ) → Crosses trunks m c → Crosses trunks m′ c → getD (packed freshPacking ss .place) m 0 ≡ getD
+          (packed freshPacking ss .place) m′ 0 → m ≡ m′
       apart m m′ c h h′ e = by-cases (ℕ-discrete m m′) (λ s. s)
           (λ ne. ⊎-elim (λ lt. absurd (omega arith)) (λ lt. absurd (omega arith))
           (all-packed .apart (spanOf left right m) (spanOf left right m′) (member m (h .0)) (member m′ (h′ .0)) ne e))
 
-      within : (most : ℕ) → most ≤ topNet → ((c : ℕ) → crossing trunks c ≤ most) → (m : ℕ) → getD left m 0 < getD right m 0 → getD
+      within : (most : ℕ) → most ≤ largestNet → ((c : ℕ) → crossing trunks c ≤ most) → (m : ℕ) → getD left m 0 < getD right m 0 → getD
           (packed freshPacking ss .place) m 0 < most
       within most h k m lt = packs freshPacking ss 1 most h (ready most
-          (λ c. omega (arith, k c, covering-few c ss (crosses c) topNet (l .ordered) (known c)))) .within (spanOf left right m) (member m lt)
+          (λ c. omega (arith, k c, covering-few c ss (crosses c) largestNet (l .ordered) (known c)))) .within (spanOf left right m) (member m lt)
         where
           crosses : ℕ → ℕ → Bool
           crosses c m = leb (getD left m 0) c && leb c (getD right m 0) && ltb (getD left m 0) (getD right m 0)
 
-          known : (c : ℕ) (s : Span) → List·Memᴰ s ss → In (s .net) topNet × (1 ≤ contains s c → crosses c (s .net) ≡ true)
+          known : (c : ℕ) (s : Span) → List·Memᴰ s ss → In (s .net) largestNet × (1 ≤ contains s c → crosses c (s .net) ≡ true)
           known c s i =
               let (e, one, lt) = l .each s i in
               let el : s .left ≡ getD left (s .net) 0 = ap (λ (u : Span). u .left) e in

@@ -6,14 +6,15 @@
 --   Rights pin q right           right has the rightmost column of each net, 0 where it has no pin
 --   spanOf left right m          net m's span
 --   Ordered ss                   each span is followed by spans of other nets only, none of which starts further left
---   Listed pin q left right ss   left has the leftmost column of each net, and of the number 0 of empty places, and ss lists the spans of the nets
---                                that lie in more than one column
+--   Listed pin q left right ss   left has the leftmost column of each net, and of the number 0 of empty places, and ss lists the spans of
+--                                the nets that lie in more than one column
 use Prim.Native.Nat.{ℕ, _+_, _/_, _%_, _≤_, _<_}
 use mathlib.Core.Path.{_≡_}
 use mathlib.Core.Logic.{_≢_}
 use mathlib.Core.List.{List, [], _∷_, List·Memᴰ}
 use lib.ListN.{length, getD}
 use lib.Dec.{eqb}
+use Rattle.terms.specs.Limits.{byteValues}
 use Rattle.counting.specs.Counting.{In}
 use Rattle.trunks.specs.declared.Span.{Span}
 use Rattle.trunks.specs.Packing.{pick}
@@ -25,7 +26,7 @@ abbrev pub column : ℕ → ℕ
 column q = q / 2 + 1
 
 pub record Rights (pin : ℕ → ℕ) (q : ℕ) (right : List ℕ) : Type 0 where
-  pub size : length right ≡ 256
+  pub size : length right ≡ byteValues
   pub none : getD right 0 0 ≡ 0
   pub seen : (e : ℕ) → e < q → pin e ≢ 0 → column e ≤ getD right (pin e) 0
   pub from : (m : ℕ) → 1 ≤ getD right m 0 → (e : ℕ) × (e < q) × (pin e ≡ m) × (getD right m 0 ≡ column e)
@@ -38,7 +39,7 @@ Ordered [] = Unit {0}
 Ordered (s ∷ ss) = ((t : Span) → List·Memᴰ t ss → (s .left ≤ t .left) × (s .net ≢ t .net)) × Ordered ss
 
 pub record Listed (pin : ℕ → ℕ) (q : ℕ) (left right : List ℕ) (ss : List Span) : Type 0 where
-  pub size : length left ≡ 256
+  pub size : length left ≡ byteValues
   pub seen : (e : ℕ) → e < q → In (getD left (pin e) 0) (column e)
   pub from : (m : ℕ) → 1 ≤ getD left m 0 → (e : ℕ) × (e < q) × (pin e ≡ m) × (getD left m 0 ≡ column e)
   pub each : (s : Span) → List·Memᴰ s ss → (s ≡ spanOf left right (s .net)) × (1 ≤ s .left) × (s .left < s .right)

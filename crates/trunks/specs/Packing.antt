@@ -12,6 +12,7 @@ use mathlib.Core.Bool.{Bool, true, false}
 use mathlib.Core.List.{List, [], _∷_}
 use lib.ListN.{set, replicate}
 use lib.Dec.{ltb}
+use Rattle.terms.specs.Limits.{largestNet, byteValues}
 use Rattle.trunks.specs.declared.Span.{Span}
 use Rattle.trunks.specs.declared.Packing.{Packing}
 
@@ -27,7 +28,7 @@ firstFree [] l = 0
 firstFree (x ∷ xs) l = pick (ltb x l) 0 (suc (firstFree xs l))
 
 abbrev pub freshPacking : Packing
-freshPacking = record { lasts = replicate 180 0; place = replicate 256 0 }
+freshPacking = record { lasts = replicate largestNet 0; place = replicate byteValues 0 }
 
 abbrev pub placed : Packing → Span → Packing
 placed p s = record {
@@ -41,4 +42,4 @@ packed p (s ∷ ss) = packed (placed p s) ss
 
 abbrev pub Packable : Packing → List Span → Type 0
 Packable p [] = Unit {0}
-Packable p (s ∷ ss) = (firstFree (p .lasts) (s .left) < 180) × Packable (placed p s) ss
+Packable p (s ∷ ss) = (firstFree (p .lasts) (s .left) < largestNet) × Packable (placed p s) ss

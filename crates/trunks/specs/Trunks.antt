@@ -4,9 +4,9 @@
 --   PinIn north south c m    net m has a pin in column c
 --   Crosses t m c            net m lies in more than one column, and its span, leftmost to rightmost column, contains c
 --   crossing t c             how many nets do
---   Placed north south n t   the spans are the nets', and the places are Gallai's: "two nets share a place only if their spans have no column
---                            in common", "A channel net with all its pins in one column takes no place", and no place is needed beyond the
---                            largest number of nets that cross one column
+--   Placed north south n t   the spans are the nets', and the places are Gallai's: "two nets share a place only if their spans have no
+--                            column in common", "A channel net with all its pins in one column takes no place", and no place is needed
+--                            beyond the largest number of nets that cross one column
 use Prim.Native.Nat.{ℕ, _≤_, _<_}
 use mathlib.Core.Path.{_≡_}
 use mathlib.Core.Logic.{_⊎_, _≢_}
@@ -15,7 +15,8 @@ use mathlib.Core.List.{List}
 use lib.ListN.{getD}
 use lib.Dec.{leb, ltb}
 use Rattle.counting.specs.Counting.{In}
-use Rattle.grid.specs.Legal.{entry, nets, topNet}
+use Rattle.terms.specs.Limits.{largestNet}
+use Rattle.grid.specs.Legal.{entry, nets}
 use Rattle.trunks.specs.declared.Trunks.{Trunks}
 
 abbrev pub leftOf : Trunks → ℕ → ℕ
@@ -40,6 +41,7 @@ pub record Placed (north south : List ℕ) (n : ℕ) (t : Trunks) : Type 0 where
   pub all : (c m : ℕ) → In c n → m ≢ 0 → PinIn north south c m → (leftOf t m ≤ c) × (c ≤ rightOf t m)
   pub first : (m : ℕ) → leftOf t m < rightOf t m → In (leftOf t m) n × PinIn north south (leftOf t m) m
   pub last : (m : ℕ) → leftOf t m < rightOf t m → In (rightOf t m) n × PinIn north south (rightOf t m) m
-  pub few : (m : ℕ) → leftOf t m < rightOf t m → In m topNet
+  pub few : (m : ℕ) → leftOf t m < rightOf t m → In m largestNet
   pub apart : (m m′ c : ℕ) → Crosses t m c → Crosses t m′ c → placeOf t m ≡ placeOf t m′ → m ≡ m′
-  pub within : (most : ℕ) → most ≤ topNet → ((c : ℕ) → crossing t c ≤ most) → (m : ℕ) → leftOf t m < rightOf t m → placeOf t m < most
+  pub within : (most : ℕ) → most ≤ largestNet → ((c : ℕ) → crossing t c ≤ most) → (m : ℕ) → leftOf t m < rightOf t m
+      → placeOf t m < most

@@ -1,13 +1,18 @@
-// The nets' spans, leftmost to rightmost column, listed by leftmost column and given trunk places Gallai's way: two nets share a place only if
-// their spans have no column in common.
+// The nets' spans, leftmost to rightmost column, listed by leftmost column and given trunk places Gallai's way: two nets share a place
+// only if their spans have no column in common.
+use terms::wide;
 ghost use mathlib.Core.Path.{_≡_};
 ghost use Prim.Native.Nat.{ℕ, _*_, _<_, _≤_};
 ghost use lib.ListN.{length, take, getD};
-ghost use Rattle.grid.specs.Legal.{topNet};
+ghost use Rattle.terms.specs.Limits.{longestSide, largestNet};
 ghost use Rattle.trunks.specs.Packing.{noSpan, firstFree, freshPacking, placed, packed, Packable};
 ghost use Rattle.trunks.specs.Listing.{pinAt, Rights, Listed};
 ghost use Rattle.trunks.specs.Trunks.{Placed};
 use grid::Column;
+use grid::column_count;
+use terms::BYTE_VALUES;
+use terms::LARGEST_NET;
+use terms::LONGEST_SIDE;
 
 pub struct Span {
     pub net: u8,
@@ -15,15 +20,9 @@ pub struct Span {
     pub right: u8,
 }
 
-fn wide(x: u8) -> usize
-    ensures { λ r. ⌜ r ≡ x ⌝ }
-{
-    x as usize
-}
-
 // The net at pin `q`, counted from 0, of the north and the south pin of each column in turn.
-fn pin_at(north: &[u8; 90], south: &[u8; 90], q: usize) -> u8
-    requires { ⌜ q < 180 ⌝ }
+fn pin_at(north: &[u8; LONGEST_SIDE], south: &[u8; LONGEST_SIDE], q: usize) -> u8
+    requires { ⌜ q < 2 * longestSide ⌝ }
     ensures { λ r. ⌜ r ≡ pinAt (now (north .entry)) (now (south .entry)) q ⌝ }
 {
     let i = q / 2;
@@ -34,11 +33,11 @@ fn pin_at(north: &[u8; 90], south: &[u8; 90], q: usize) -> u8
 }
 
 // The rightmost column of each net.
-fn rights(north: &[u8; 90], south: &[u8; 90], n: usize) -> [u8; 256]
-    requires { ⌜ n ≤ 90 ⌝ }
+fn rights(north: &[u8; LONGEST_SIDE], south: &[u8; LONGEST_SIDE], n: usize) -> [u8; BYTE_VALUES]
+    requires { ⌜ n ≤ longestSide ⌝ }
     ensures { λ r. ⌜ Rights (pinAt (now (north .entry)) (now (south .entry))) (2 * n) r ⌝ }
 {
-    let mut right = [0u8; 256];
+    let mut right = [0u8; BYTE_VALUES];
     let pins = 2 * n;
     let mut q = 0;
     while q < pins {
@@ -54,23 +53,29 @@ fn rights(north: &[u8; 90], south: &[u8; 90], n: usize) -> [u8; 256]
 
 // The leftmost column of each net, and the spans of the nets that lie in more than one column.
 pub struct Listing {
-    pub left: [u8; 256],
-    pub spans: [Span; 180],
+    pub left: [u8; BYTE_VALUES],
+    pub spans: [Span; LARGEST_NET],
     pub count: usize,
 }
 
 // A net's first pin, column by column, is its leftmost; so the spans are listed by leftmost column as they are met. The number 0 of empty
 // places has no rightmost column, and so no span.
-fn list_spans(north: &[u8; 90], south: &[u8; 90], n: usize, right: &[u8; 256]) -> Listing
-    requires { ⌜ n ≤ 90 ⌝ }
-    ensures { λ r. ⌜ (r .count ≤ 180) × Listed (pinAt (now (north .entry)) (now (south .entry))) (2 * n) (r .left) (now (right .entry)) (take (r .count) (r .spans)) ⌝ }
+fn list_spans(
+    north: &[u8; LONGEST_SIDE],
+    south: &[u8; LONGEST_SIDE],
+    n: usize,
+    right: &[u8; BYTE_VALUES],
+) -> Listing
+    requires { ⌜ n ≤ longestSide ⌝ }
+    ensures { λ r. ⌜ (r .count ≤ largestNet) × Listed (pinAt (now (north .entry)) (now (south .entry))) (2 * n) (r .left)
+        (now (right .entry)) (take (r .count) (r .spans)) ⌝ }
 {
-    let mut left = [0u8; 256];
+    let mut left = [0u8; BYTE_VALUES];
     let mut spans = [Span {
         net: 0,
         left: 0,
         right: 0,
-    }; 180];
+    }; LARGEST_NET];
     let mut count = 0;
     let pins = 2 * n;
     let mut q = 0;
@@ -97,15 +102,15 @@ fn list_spans(north: &[u8; 90], south: &[u8; 90], n: usize, right: &[u8; 256]) -
 // The packing under way: the rightmost column of each place's last span, 0 where the place is empty, and each net's place.
 // There are no more places than spans.
 pub struct Packing {
-    pub lasts: [u8; 180],
-    pub place: [u8; 256],
+    pub lasts: [u8; LARGEST_NET],
+    pub place: [u8; BYTE_VALUES],
 }
 
 fn fresh() -> Packing
     ensures { λ r. ⌜ r ≡ freshPacking ⌝ }
 {
-    let lasts = [0u8; 180];
-    let place = [0u8; 256];
+    let lasts = [0u8; LARGEST_NET];
+    let place = [0u8; BYTE_VALUES];
     Packing { lasts, place }
 }
 
@@ -125,7 +130,7 @@ fn first_free(lasts: &[u8], left: u8) -> usize
 
 // The span `s` takes the first place that is free.
 fn place_one(p: Packing, s: Span) -> Packing
-    requires { ⌜ firstFree (p .lasts) (s .left) < 180 ⌝ }
+    requires { ⌜ firstFree (p .lasts) (s .left) < largestNet ⌝ }
     ensures { λ r. ⌜ r ≡ placed p s ⌝ }
 {
     let mut q = p;
@@ -138,7 +143,7 @@ fn place_one(p: Packing, s: Span) -> Packing
 
 // The same of element `k` of a lent slice: it is taken out, and handed on.
 fn place_next(spans: &[Span], k: usize, p: Packing) -> Packing
-    requires { ⌜ (k < length (now spans)) × (firstFree (p .lasts) (getD (now spans) k noSpan .left) < 180) ⌝ }
+    requires { ⌜ (k < length (now spans)) × (firstFree (p .lasts) (getD (now spans) k noSpan .left) < largestNet) ⌝ }
     ensures { λ r. ⌜ r ≡ placed p (getD (now (spans .entry)) k noSpan) ⌝ }
 {
     place_one(p, spans[k])
@@ -160,8 +165,8 @@ fn pack_spans(spans: &[Span]) -> Packing
 }
 
 // The first `n` elements of an array are lent to `pack_spans`. This contract says nothing of a slice, so no caller needs a walk by hand.
-fn pack(all: [Span; 180], n: usize) -> Packing
-    requires { ⌜ (n ≤ 180) × Packable freshPacking (take n all) ⌝ }
+fn pack(all: [Span; LARGEST_NET], n: usize) -> Packing
+    requires { ⌜ (n ≤ largestNet) × Packable freshPacking (take n all) ⌝ }
     ensures { λ r. ⌜ r ≡ packed freshPacking (take n all) ⌝ }
 {
     pack_spans(&all[..n])
@@ -169,18 +174,20 @@ fn pack(all: [Span; 180], n: usize) -> Packing
 
 // Each net's span and trunk place.
 pub struct Trunks {
-    pub left: [u8; 256],
-    pub right: [u8; 256],
-    pub place: [u8; 256],
+    pub left: [u8; BYTE_VALUES],
+    pub right: [u8; BYTE_VALUES],
+    pub place: [u8; BYTE_VALUES],
 }
 
 // The trunk places of a row or a channel. (For our own crates.)
-pub fn place_trunks(north: &[u8; 90], south: &[u8; 90], n: Column) -> Trunks
-    requires { ⌜ (n .0 ≤ 90) × ((a : ℕ) → getD (now north) a 0 ≤ topNet) × ((a : ℕ) → getD (now south) a 0 ≤ topNet) ⌝ }
+pub fn place_trunks(north: &[u8; LONGEST_SIDE], south: &[u8; LONGEST_SIDE], n: Column) -> Trunks
+    requires { ⌜ (n .0 ≤ longestSide) × ((a : ℕ) → getD (now north) a 0 ≤ largestNet) ×
+        ((a : ℕ) → getD (now south) a 0 ≤ largestNet) ⌝ }
     ensures { λ r. ⌜ Placed (now (north .entry)) (now (south .entry)) (n .0) r ⌝ }
 {
-    let right = rights(north, south, n.0);
-    let list = list_spans(north, south, n.0, &right);
+    let columns = column_count(n);
+    let right = rights(north, south, columns);
+    let list = list_spans(north, south, columns, &right);
     let left = list.left;
     let spans = list.spans;
     let packing = pack(spans, list.count);

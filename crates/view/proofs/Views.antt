@@ -11,12 +11,14 @@ use lib.ListN.{length, length-drop, take, drop}
 use lib.Seq.{length-take-le}
 use borrow.Author.Tests.{eqb-true, eq-eqb, ne-eqb}
 use Rattle.counting.specs.Counting.{In}
-use Rattle.grid.specs.declared.Refusal.{Refusal}
+use Rattle.terms.specs.declared.Refusal.{Refusal}
 use Rattle.grid.specs.Grid.{upright}
+use Rattle.terms.specs.Refusals.{refusal, unless}
+use Rattle.terms.specs.Limits.{longestSide, widestGrid, mostLayers, within}
+use Rattle.terms.proofs.Laws.{within-in, passed}
 use Rattle.grid.specs.Legal.{index}
-use Rattle.grid.specs.Limits.{longestSide, mostLayers, within, refusal, unless}
 use Rattle.grid.proofs.Buffer.{layer-in}
-use Rattle.grid.proofs.Sizes.{Sized, sized, within-in}
+use Rattle.grid.proofs.Sizes.{Sized, sized}
 use Rattle.view.specs.View.{viewRefusal, viewStart, viewLength, OwnPart}
 
 pub record Viewed (x : List ℕ) (n w k l : ℕ) : Type 0 where
@@ -24,14 +26,10 @@ pub record Viewed (x : List ℕ) (n w k l : ℕ) : Type 0 where
   pub whole : length x ≡ n * w * k
   pub level : In l k
 
-passed : (t : Bool) (r s : Refusal) → (r .number ≡ 0 → ⊥) → unless t r s .number ≡ 0 → (t ≡ true) × (s .number ≡ 0)
-passed true r s h e = (refl, e)
-passed false r s h e = absurd (h e)
-
 pub viewed : (x : List ℕ) (n w k l : ℕ) → viewRefusal x n w k l .number ≡ 0 → Viewed x n w k l
 unfolding viewRefusal
 viewed x n w k l e =
-    let (a, f) = passed (within n longestSide && within w longestSide && within k mostLayers) (refusal 11 0)
+    let (a, f) = passed (within n longestSide && within w widestGrid && within k mostLayers) (refusal 11 0)
     (unless (eqb (length x) (n * w * k)) (refusal 12 (n * w * k)) (unless (within l k) (refusal 16 l) (refusal 0 0))) (λ z. omega arith) e in
     let (b, d) = passed (eqb (length x) (n * w * k)) (refusal 12 (n * w * k)) (unless (within l k) (refusal 16 l) (refusal 0 0)) (λ z. omega arith) f in
     let (c, _) = passed (within l k) (refusal 16 l) (refusal 0 0) (λ z. omega arith) d in

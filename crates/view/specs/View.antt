@@ -14,14 +14,15 @@ use mathlib.Core.List.{List}
 use denote.Ref.{RefT, now}
 use lib.Dec.{eqb}
 use lib.ListN.{length, take, drop}
-use Rattle.grid.specs.declared.Refusal.{Refusal}
+use Rattle.terms.specs.declared.Refusal.{Refusal}
 use Rattle.grid.specs.Grid.{upright}
+use Rattle.terms.specs.Refusals.{refusal, unless}
+use Rattle.terms.specs.Limits.{longestSide, widestGrid, mostLayers, within}
 use Rattle.grid.specs.Legal.{index}
-use Rattle.grid.specs.Limits.{longestSide, mostLayers, within, refusal, unless}
 
 unfoldable pub viewRefusal : List ℕ → ℕ → ℕ → ℕ → ℕ → Refusal
 viewRefusal x n w k l =
-    unless (within n longestSide && within w longestSide && within k mostLayers) (refusal 11 0)
+    unless (within n longestSide && within w widestGrid && within k mostLayers) (refusal 11 0)
     (unless (eqb (length x) (n * w * k)) (refusal 12 (n * w * k))
     (unless (within l k) (refusal 16 l) (refusal 0 0)))
 

@@ -5,7 +5,9 @@ use mathlib.Core.Logic.{inl, inr}
 use mathlib.Core.Bool.{Bool, true, false}
 use native.Mathlib.Omega.{arith}
 use native.Mathlib.Nat.{mul-le-mul-left}
-use Rattle.grid.specs.Grid.{Grid, Node, pin, north, south, west, east, point, Inside, Edge, along-column, along-track, via, north-pin, south-pin, west-pin, east-pin}
+use Rattle.terms.specs.Limits.{longestSide, widestGrid, mostLayers}
+use Rattle.terms.specs.Kinds.{north, south, west, east}
+use Rattle.grid.specs.Grid.{Grid, Node, pin, point, Inside, Edge, along-column, along-track, via, north-pin, south-pin, west-pin, east-pin}
 use Rattle.sweep.specs.Marks.{Spot, a-pin, a-point}
 use Rattle.sweep.specs.Edges.{gridOf, horizontal, Edges, Shape}
 use Rattle.sweep.specs.declared.Frame.{Frame}
@@ -18,13 +20,13 @@ use Rattle.walk.specs.Walk.{On, Tip, north-tip, south-tip, west-tip, eas
 
 pub record Small (f : Frame) (c : Cell) : Type 0 where
   pub inside : c .q < f .n * f .w * f .k
-  pub size : f .n * f .w * f .k ≤ 2065500
-  pub area : f .n * f .w ≤ 8100
+  pub size : f .n * f .w * f .k ≤ longestSide * widestGrid * mostLayers
+  pub area : f .n * f .w ≤ longestSide * widestGrid
 
 pub small : (f : Frame) (c : Cell) → Shape f → On (gridOf f) c → Small f c
 small f c s o =
-    let a : f .n * f .w ≤ 8100 = omega (arith, s, mul-le-mul-left (f .n) (s .wide .1)) in
-    let b : f .n * f .w * f .k ≤ f .n * f .w * 255 = mul-le-mul-left (f .n * f .w) (s .deep .1) in
+    let a : f .n * f .w ≤ longestSide * widestGrid = omega (arith, s, mul-le-mul-left (f .n) (s .wide .1)) in
+    let b : f .n * f .w * f .k ≤ f .n * f .w * mostLayers = mul-le-mul-left (f .n * f .w) (s .deep .1) in
     record {
       inside = omega (arith, o, rows-in (c .l) (f .k) (f .n * f .w) (o .layer), rows-in (c .j) (f .w) (f .n) (o .track));
       size = omega arith;

@@ -20,7 +20,7 @@ use mathlib.Core.List.{List}
 use lib.ListN.{length, set}
 use Rattle.grid.specs.Grid.{Grid}
 use Rattle.sweep.specs.Marks.{at, a-point, val, two, Grown}
-use Rattle.sweep.specs.Edges.{gridOf, Edges, PointsFit}
+use Rattle.sweep.specs.Edges.{gridOf, Edges, PointsFit, southStart, westStart, eastStart, pinPlaces}
 use Rattle.sweep.specs.declared.Frame.{Frame}
 use Rattle.walk.specs.declared.Cell.{Cell}
 
@@ -32,9 +32,9 @@ pub record On (g : Grid) (c : Cell) : Type 0 where
 
 pub data Tip (g : Grid) (a i j : ℕ) : Bool → Type 0 where
   north-tip : a ≡ i → j + 1 ≡ g .w → Tip g a i j false
-  south-tip : a ≡ 90 + i → j ≡ 0 → Tip g a i j false
-  west-tip : a ≡ 180 + j → i ≡ 0 → Tip g a i j true
-  east-tip : a ≡ 270 + j → i + 1 ≡ g .n → Tip g a i j true
+  south-tip : a ≡ southStart + i → j ≡ 0 → Tip g a i j false
+  west-tip : a ≡ westStart + j → i ≡ 0 → Tip g a i j true
+  east-tip : a ≡ eastStart + j → i + 1 ≡ g .n → Tip g a i j true
 
 pub record Stepped (g : Grid) (c r : Cell) : Type 0 where
   pub cell : On g r
@@ -67,7 +67,7 @@ pub record Ready (f : Frame) (x m : List ℕ) (c : Cell) (v : ℕ) : Type 0 wher
   pub holds : at x (c .q) ≡ v
 
 pub record Pinned (g : Grid) (s : List ℕ) (a : ℕ) (c : Cell) (flat : Bool) : Type 0 where
-  pub place : a < 360
+  pub place : a < pinPlaces
   pub marked : at s a ≢ 0
   pub cell : On g c
   pub tip : Tip g a (c .i) (c .j) flat

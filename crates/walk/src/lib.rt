@@ -9,9 +9,13 @@ ghost use mathlib.Core.Bool.{true, false};
 ghost use Prim.Native.Nat.{_+_, _*_, _≤_, _<_};
 ghost use lib.ListN.{length};
 ghost use Rattle.sweep.specs.Marks.{at, val, two, Grown};
-ghost use Rattle.sweep.specs.Edges.{gridOf, horizontal, Edges, Shape, Fits};
+ghost use Rattle.sweep.specs.Edges.{gridOf, horizontal, Edges, Shape, Fits, pinPlaces};
 ghost use Rattle.walk.specs.Walk.{On, Tip, Stepped, Claimed, Moved, Met, Walked, Ready, Pinned};
+use sweep::EAST_START;
 use sweep::Frame;
+use sweep::PIN_PLACES;
+use sweep::SOUTH_START;
+use sweep::WEST_START;
 
 // Point q of the buffer, in column i, track j and layer l, all from 0, and the next direction to try there: 1 to 4, 5 for none, so
 // that the walk goes back, 6 at the walk's end.
@@ -247,7 +251,7 @@ fn try_ahead(x: &[u8], m: &mut [u8], c: Cell, v: u8, f: Frame) -> Cell
 
 // The pins that cell c touches are marked, to be walked from, where they hold v.
 fn meet(p: &[u8], s: &mut [u8], c: Cell, v: u8, f: Frame)
-    requires { ⌜ Shape f × On (gridOf f) c × (length (now p) ≡ 360) × (length (now s) ≡ 360) ⌝ }
+    requires { ⌜ Shape f × On (gridOf f) c × (length (now p) ≡ pinPlaces) × (length (now s) ≡ pinPlaces) ⌝ }
     ensures { λ r. ⌜ Met (gridOf f) (now (p .entry)) (now (s .entry)) (now (s .exit)) (c .q) v ⌝ }
 {
     let n = f.n;
@@ -257,11 +261,11 @@ fn meet(p: &[u8], s: &mut [u8], c: Cell, v: u8, f: Frame)
     let j = c.j;
     let l = c.l;
     if sweep::is_horizontal(l, first) {
-        claim_if(i == 0, p, s, 180 + j, v, 1);
-        claim_if(i + 1 == n, p, s, 270 + j, v, 1);
+        claim_if(i == 0, p, s, WEST_START + j, v, 1);
+        claim_if(i + 1 == n, p, s, EAST_START + j, v, 1);
         return;
     }
-    claim_if(j == 0, p, s, 90 + i, v, 1);
+    claim_if(j == 0, p, s, SOUTH_START + i, v, 1);
     claim_if(j + 1 == w, p, s, i, v, 1);
 }
 
@@ -317,33 +321,33 @@ struct Touch {
 }
 
 fn touch_of(a: usize, f: Frame) -> Touch
-    requires { ⌜ Shape f × (a < 360) ⌝ }
+    requires { ⌜ Shape f × (a < pinPlaces) ⌝ }
     ensures { λ r. ⌜ Tip (gridOf f) a (r .i) (r .j) (r .flat) ⌝ }
 {
-    if a < 90 {
+    if a < SOUTH_START {
         return Touch {
             i: a,
             j: f.w - 1,
             flat: false,
         };
     }
-    if a < 180 {
+    if a < WEST_START {
         return Touch {
-            i: a - 90,
+            i: a - SOUTH_START,
             j: 0,
             flat: false,
         };
     }
-    if a < 270 {
+    if a < EAST_START {
         return Touch {
             i: 0,
-            j: a - 180,
+            j: a - WEST_START,
             flat: true,
         };
     }
     Touch {
         i: f.n - 1,
-        j: a - 270,
+        j: a - EAST_START,
         flat: true,
     }
 }
@@ -390,7 +394,7 @@ fn walk_from(
     flat: bool,
     f: Frame,
 )
-    requires { ⌜ Fits f (length (now p)) (length (now s)) (length (now x)) (length (now m)) × (a < 360) × (at (now s) a ≢ 0) × (i < f .n) × (j < f .w) × Tip (gridOf f) a i j flat ⌝ }
+    requires { ⌜ Fits f (length (now p)) (length (now s)) (length (now x)) (length (now m)) × (a < pinPlaces) × (at (now s) a ≢ 0) × (i < f .n) × (j < f .w) × Tip (gridOf f) a i j flat ⌝ }
     ensures { λ r. ⌜ Grown (val (now (p .entry)) (now (x .entry))) (two (now (s .entry)) (now (m .entry))) (two (now (s .exit)) (now (m .exit))) (Edges (gridOf f)) ⌝ }
 {
     let k = f.k;
@@ -404,7 +408,7 @@ fn walk_from(
 
 // Where pin a waits: walks from its points. 1 for a pin that waited, else 0.
 fn take_up(p: &[u8], s: &mut [u8], x: &[u8], m: &mut [u8], a: usize, f: Frame) -> usize
-    requires { ⌜ Fits f (length (now p)) (length (now s)) (length (now x)) (length (now m)) × (a < 360) ⌝ }
+    requires { ⌜ Fits f (length (now p)) (length (now s)) (length (now x)) (length (now m)) × (a < pinPlaces) ⌝ }
     ensures { λ r. ⌜ Grown (val (now (p .entry)) (now (x .entry))) (two (now (s .entry)) (now (m .entry))) (two (now (s .exit)) (now (m .exit))) (Edges (gridOf f)) × (r ≤ 1) ⌝ }
 {
     if s[a] != 1 {
@@ -431,18 +435,18 @@ fn take_up_all(p: &[u8], s: &mut [u8], x: &[u8], m: &mut [u8], f: Frame) -> usiz
     ensures { λ r. ⌜ Grown (val (now (p .entry)) (now (x .entry))) (two (now (s .entry)) (now (m .entry))) (two (now (s .exit)) (now (m .exit))) (Edges (gridOf f)) ⌝ }
 {
     let mut waited: usize = 0;
-    for a in 0..360 {
+    for a in 0..PIN_PLACES {
         waited += take_up(p, s, x, m, a, f);
     }
     waited
 }
 
-// Walks from all marked pins, and from those that the walks reach. A pin waits once, so 360 rounds are enough. (For our own crates.)
+// Walks from all marked pins, and from those that the walks reach. A pin waits once, so as many rounds as places are enough. (For our own crates.)
 pub fn spread(p: &[u8], s: &mut [u8], x: &[u8], m: &mut [u8], f: Frame)
     requires { ⌜ Fits f (length (now p)) (length (now s)) (length (now x)) (length (now m)) ⌝ }
     ensures { λ r. ⌜ Grown (val (now (p .entry)) (now (x .entry))) (two (now (s .entry)) (now (m .entry))) (two (now (s .exit)) (now (m .exit))) (Edges (gridOf f)) ⌝ }
 {
-    let mut rounds: usize = 360;
+    let mut rounds: usize = PIN_PLACES;
     while 0 < rounds {
         rounds -= 1;
         if take_up_all(p, s, x, m, f) == 0 {

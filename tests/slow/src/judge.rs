@@ -1,6 +1,6 @@
 //! Check: legality by union-find over every join of 'The grid and what joins'.
 
-use crate::{read, Pin, Refusal, EAST, NORTH, SOUTH, WEST};
+use crate::{no_kind, no_side, read, Pin, Refusal, BOX, CHANNEL, EAST, MOST_LAYERS, NORTH, ROW, SOUTH, WEST, WIDEST_GRID};
 
 /// The sizes of a wiring, and whether its layer 1 is horizontal.
 #[derive(Clone, Copy, Debug, PartialEq, Eq)]
@@ -14,6 +14,17 @@ pub struct Grid {
 impl Grid {
     pub fn size(&self) -> usize {
         self.n * self.w * self.k
+    }
+
+    /// The column and the track of the points that a pin at this place may touch.
+    pub fn beside(&self, side: usize, place: usize) -> (usize, usize) {
+        match side {
+            NORTH => (place, self.w),
+            SOUTH => (place, 1),
+            WEST => (1, place),
+            EAST => (self.n, place),
+            other => no_side(other),
+        }
     }
 
     /// Point (i, j, l) of the buffer, all from 1.
@@ -86,12 +97,8 @@ pub fn judge(g: Grid, pins: &[Pin], x: &[u8]) -> Result<(), Refusal> {
             if g.horizontal(l) != sideways {
                 continue;
             }
-            let v = match p.side {
-                NORTH => g.at(p.place, g.w, l),
-                SOUTH => g.at(p.place, 1, l),
-                WEST => g.at(1, p.place, l),
-                _ => g.at(g.n, p.place, l),
-            };
+            let (i, j) = g.beside(p.side, p.place);
+            let v = g.at(i, j, l);
             if x[v] == p.net {
                 pieces.join(size + index, v);
             }
@@ -118,7 +125,12 @@ pub fn judge(g: Grid, pins: &[Pin], x: &[u8]) -> Result<(), Refusal> {
 /// Check, with the scratch's length.
 pub fn check(t: &[u8], w: usize, k: usize, first: bool, x: &[u8], scratch: usize) -> Result<(), Refusal> {
     let t = read::read(t)?;
-    if !(1..=90).contains(&w) || (t.kind == 3 && w != t.byte2) || !(1..=255).contains(&k) {
+    let fits = match t.kind {
+        ROW | CHANNEL => true,
+        BOX => w == t.byte2,
+        other => no_kind(other),
+    };
+    if !(1..=WIDEST_GRID).contains(&w) || !fits || !(1..=MOST_LAYERS).contains(&k) {
         return Err(Refusal(11, 0));
     }
     let g = Grid { n: t.n, w, k, first };

@@ -3,7 +3,7 @@
 
 use crate::judge::Grid;
 use crate::survey::figures;
-use crate::{Pin, Ticket, EAST, NORTH, SOUTH, WEST};
+use crate::{no_kind, no_side, Pin, Ticket, BOX, CHANNEL, EAST, NORTH, ROW, SOUTH, WEST};
 
 /// A wiring under way; a point is given to one net only.
 struct Canvas {
@@ -31,14 +31,31 @@ impl Canvas {
     }
 }
 
-/// The grid and the wiring that the ticket gets.
-pub fn lay(t: &Ticket) -> (Grid, Vec<u8>) {
+/// The grid of the ticket's wiring.
+pub fn grid(t: &Ticket) -> Grid {
     let f = figures(t);
-    let g = Grid { n: t.n, w: f.w, k: f.layers, first: t.kind == 3 && t.n < f.w };
-    (g, if t.kind == 3 { lay_box(t, g) } else { lay_channel(t, g) })
+    let first = match t.kind {
+        ROW | CHANNEL => false,
+        BOX => t.n < f.w,
+        other => no_kind(other),
+    };
+    Grid { n: t.n, w: f.w, k: f.layers, first }
 }
 
-fn lay_channel(t: &Ticket, g: Grid) -> Vec<u8> {
+/// The grid and the wiring that the ticket gets.
+pub fn lay(t: &Ticket) -> (Grid, Vec<u8>) {
+    let g = grid(t);
+    let x = match t.kind {
+        ROW => lay_trunks(t, g, |layer, _| layer - 1),
+        CHANNEL => lay_trunks(t, g, |layer, north| if (layer % 4 == 2) == north { layer - 1 } else { layer + 1 }),
+        BOX => lay_box(t, g),
+        other => no_kind(other),
+    };
+    (g, x)
+}
+
+/// A row or a channel; `comb` gives the layer of a north or a south pin's stretch, of the trunk's.
+fn lay_trunks(t: &Ticket, g: Grid, comb: impl Fn(usize, bool) -> usize) -> Vec<u8> {
     let h = t.byte2;
     let mut canvas = Canvas::new(g);
     let mut spans: Vec<(usize, usize, u8)> = Vec::new();
@@ -63,9 +80,8 @@ fn lay_channel(t: &Ticket, g: Grid) -> Vec<u8> {
             last = right;
             canvas.along_track(left, right, track, layer, net);
             for p in t.pins.iter().filter(|p| p.net == net) {
-                let north = p.side == NORTH;
-                let comb = if t.kind == 1 || (layer % 4 == 2) == north { layer - 1 } else { layer + 1 };
-                canvas.along_column(p.place, if north { g.w } else { 1 }, track, comb, net);
+                let (column, end) = g.beside(p.side, p.place);
+                canvas.along_column(column, end, track, comb(layer, p.side == NORTH), net);
             }
             false
         });
@@ -90,13 +106,15 @@ fn seen(v: View, n: usize, w: usize, p: Pin) -> Pin {
     if v.columns {
         match side {
             WEST | EAST => side = WEST + EAST - side,
-            _ => place = n + 1 - place,
+            NORTH | SOUTH => place = n + 1 - place,
+            other => no_side(other),
         }
     }
     if v.tracks {
         match side {
             NORTH | SOUTH => side = NORTH + SOUTH - side,
-            _ => place = w + 1 - place,
+            WEST | EAST => place = w + 1 - place,
+            other => no_side(other),
         }
     }
     Pin { side, place, net }
@@ -182,14 +200,20 @@ fn lay_standing(nets: &[Net], g: Grid) -> Vec<u8> {
     let pairs: Vec<u8> = nets.iter().filter(|x| x.pair()).map(|x| x.name).collect();
     let by_column = &pairs[..pairs.len() / 2];
     let has_track = |x: &Net| {
-        (x.many(NORTH) + x.many(SOUTH) >= 2 && !x.just(NORTH, EAST)) || (x.just(NORTH, WEST) && x.many(NORTH) == 1) || (x.pair() && !by_column.contains(&x.name))
+        (x.many(NORTH) + x.many(SOUTH) >= 2 && !x.just(NORTH, EAST))
+            || (x.just(NORTH, WEST) && x.many(NORTH) == 1)
+            || (x.pair() && !by_column.contains(&x.name))
     };
     let has_column = |x: &Net| {
-        (x.many(EAST) + x.many(WEST) >= 2 && !x.just(NORTH, EAST)) || (x.just(SOUTH, EAST) && x.many(EAST) == 1) || (x.pair() && by_column.contains(&x.name))
+        (x.many(EAST) + x.many(WEST) >= 2 && !x.just(NORTH, EAST))
+            || (x.just(SOUTH, EAST) && x.many(EAST) == 1)
+            || (x.pair() && by_column.contains(&x.name))
     };
     let mut canvas = Canvas::new(g);
     let tracked: Vec<&Net> = nets.iter().filter(|x| has_track(x)).collect();
-    let lanes = |own: &[usize], width: usize, slots: usize| -> Vec<usize> { (0..slots).filter(|s| own.is_empty() || own.contains(&(s % width + 1))).collect() };
+    let lanes = |own: &[usize], width: usize, slots: usize| -> Vec<usize> {
+        (0..slots).filter(|s| own.is_empty() || own.contains(&(s % width + 1))).collect()
+    };
     let wishes: Vec<Vec<usize>> = tracked.iter().map(|x| lanes(&x.sides[WEST], g.w, q * g.w)).collect();
     for (x, slot) in tracked.iter().zip(matched(&wishes, q * g.w)) {
         draw_track(&mut canvas, x, slot % g.w + 1, 2 * (slot / g.w) + 2, q);
@@ -200,7 +224,8 @@ fn lay_standing(nets: &[Net], g: Grid) -> Vec<u8> {
         draw_column(&mut canvas, x, slot + 1, q);
     }
     for x in nets.iter().filter(|x| x.many(NORTH) > 0 && x.many(EAST) > 0) {
-        let (all_north, all_east) = if x.just(NORTH, EAST) { (&x.sides[NORTH][..], &x.sides[EAST][..]) } else { (&x.sides[NORTH][..1], &x.sides[EAST][..1]) };
+        let (all_north, all_east) =
+            if x.just(NORTH, EAST) { (&x.sides[NORTH][..], &x.sides[EAST][..]) } else { (&x.sides[NORTH][..1], &x.sides[EAST][..1]) };
         for &i in all_north {
             for &j in all_east {
                 canvas.along_column(i, g.w, j, 2 * q + 1, x.name);
@@ -213,7 +238,7 @@ fn lay_standing(nets: &[Net], g: Grid) -> Vec<u8> {
 
 fn draw_track(canvas: &mut Canvas, x: &Net, j: usize, l: usize, q: usize) {
     let w = canvas.g.w;
-    let north_below = (2 * q + 1 - (l - 1)) / 2 % 2 == 0;
+    let north_below = (2 * q + 2 - l) % 4 < 2;
     let (north, south) = if north_below { (l - 1, l + 1) } else { (l + 1, l - 1) };
     let mut ends: Vec<usize> = [&x.sides[NORTH][..], &x.sides[SOUTH][..]].concat();
     if x.many(WEST) > 0 {

@@ -10,11 +10,51 @@ pub mod survey;
 pub mod tickets;
 pub mod wirings;
 
+/// The limits of the document.
+pub const LONGEST_SIDE: usize = 90;
+pub const WIDEST_GRID: usize = 90;
+pub const MOST_LAYERS: usize = 255;
+pub const MOST_TRUNK_LAYERS: usize = 8;
+pub const LARGEST_NET: u8 = 180;
+pub const LONGEST_TICKET: usize = 412;
+
 /// The four sides, in the order of the side map's bits.
 pub const NORTH: usize = 0;
 pub const SOUTH: usize = 1;
 pub const WEST: usize = 2;
 pub const EAST: usize = 3;
+
+pub fn no_side(number: usize) -> ! {
+    panic!("{number} is no side")
+}
+
+/// The kinds of ticket.
+pub const ROW: u8 = 1;
+pub const CHANNEL: u8 = 2;
+pub const BOX: u8 = 3;
+
+pub fn no_kind(number: u8) -> ! {
+    panic!("{number} is no kind")
+}
+
+/// The sides that a ticket of this kind may have, and its largest byte 2; nothing for a number that is no kind.
+pub fn rules(kind: u8) -> Option<(&'static [usize], usize)> {
+    match kind {
+        ROW => Some((&[NORTH], MOST_TRUNK_LAYERS)),
+        CHANNEL => Some((&[NORTH, SOUTH], MOST_TRUNK_LAYERS)),
+        BOX => Some((&[NORTH, SOUTH, WEST, EAST], LONGEST_SIDE)),
+        _ => None,
+    }
+}
+
+/// How many places a side has, of a grid of n columns and w tracks.
+pub fn places(side: usize, n: usize, w: usize) -> usize {
+    match side {
+        NORTH | SOUTH => n,
+        WEST | EAST => w,
+        other => no_side(other),
+    }
+}
 
 /// A refusal: its number and its place.
 #[derive(Clone, Copy, Debug, PartialEq, Eq)]

@@ -13,12 +13,7 @@ fn neighbours(g: Grid, pins: &[Pin], u: usize, out: &mut Vec<usize>) {
     let pin = |side: usize, place: usize| pins.iter().position(|p| p.side == side && p.place == place).map(|a| size + a);
     if u >= size {
         let p = pins[u - size];
-        let (i, j) = match p.side {
-            NORTH => (p.place, g.w),
-            SOUTH => (p.place, 1),
-            WEST => (1, p.place),
-            _ => (g.n, p.place),
-        };
+        let (i, j) = g.beside(p.side, p.place);
         let sideways = p.side == WEST || p.side == EAST;
         out.extend((1..=g.k).filter(|l| g.horizontal(*l) == sideways).map(|l| g.at(i, j, l)));
         return;

@@ -1,24 +1,19 @@
 //! Read: bytes to a ticket, or the first refusal in the document's order.
 
-use crate::{Pin, Refusal, Ticket, EAST, NORTH, SOUTH, WEST};
+use crate::{places, rules, Pin, Refusal, Ticket, LARGEST_NET, LONGEST_SIDE};
 
 pub fn read(t: &[u8]) -> Result<Ticket, Refusal> {
     if t.len() < 4 {
         return Err(Refusal(1, t.len()));
     }
     let kind = t[0];
-    let allowed: &[usize] = match kind {
-        1 => &[NORTH],
-        2 => &[NORTH, SOUTH],
-        3 => &[NORTH, SOUTH, WEST, EAST],
-        _ => return Err(Refusal(2, 0)),
-    };
+    let Some((allowed, largest)) = rules(kind) else { return Err(Refusal(2, 0)) };
     let n = t[1] as usize;
-    if !(1..=90).contains(&n) {
+    if !(1..=LONGEST_SIDE).contains(&n) {
         return Err(Refusal(3, 1));
     }
     let byte2 = t[2] as usize;
-    if !(1..=if kind == 3 { 90 } else { 8 }).contains(&byte2) {
+    if !(1..=largest).contains(&byte2) {
         return Err(Refusal(4, 2));
     }
     let standing: Vec<usize> = (0..8).filter(|s| t[3] >> s & 1 == 1).collect();
@@ -28,7 +23,7 @@ pub fn read(t: &[u8]) -> Result<Ticket, Refusal> {
     let mut at = 4;
     let mut pins = Vec::new();
     for side in standing {
-        let places = if side == NORTH || side == SOUTH { n } else { byte2 };
+        let places = places(side, n, byte2);
         let size = places.div_ceil(8);
         if at + size > t.len() {
             return Err(Refusal(1, t.len()));
@@ -40,7 +35,7 @@ pub fn read(t: &[u8]) -> Result<Ticket, Refusal> {
         at += size;
         for i in bits {
             let Some(&net) = t.get(at) else { return Err(Refusal(1, t.len())) };
-            if !(1..=180).contains(&net) {
+            if !(1..=LARGEST_NET).contains(&net) {
                 return Err(Refusal(7, at));
             }
             pins.push(Pin { side, place: i + 1, net });
@@ -50,7 +45,7 @@ pub fn read(t: &[u8]) -> Result<Ticket, Refusal> {
     if at < t.len() {
         return Err(Refusal(8, at));
     }
-    for net in 1..=180 {
+    for net in 1..=LARGEST_NET {
         if pins.iter().filter(|p| p.net == net).count() == 1 {
             return Err(Refusal(9, net as usize));
         }

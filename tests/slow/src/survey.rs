@@ -1,6 +1,6 @@
 //! Counts and floor, and the program's line.
 
-use crate::{read, Pin, Refusal, Ticket, EAST, NORTH, SOUTH, WEST};
+use crate::{no_kind, no_side, read, Pin, Refusal, Ticket, BOX, CHANNEL, EAST, NORTH, ROW, SOUTH, WEST};
 
 /// The largest number of nets that any of the lines 1 to `lines` must pass; `at` gives a pin's line.
 fn most_passed(t: &Ticket, lines: usize, at: impl Fn(&Pin) -> usize) -> usize {
@@ -19,29 +19,45 @@ pub struct Figures {
     pub floor: usize,
 }
 
-pub fn figures(t: &Ticket) -> Figures {
-    let (n, w) = (t.n, t.byte2);
-    let nets = t.nets().len();
-    let column = |p: &Pin| match p.side {
+/// How many nets some column must pass.
+fn across(t: &Ticket) -> usize {
+    most_passed(t, t.n, |p| match p.side {
+        NORTH | SOUTH => p.place,
         WEST => 0,
-        EAST => n + 1,
-        _ => p.place,
-    };
-    let across = most_passed(t, n, column);
-    if t.kind != 3 {
-        let h = t.byte2;
-        let layers = 2 * h + if t.kind == 2 { 1 } else { 0 };
-        return Figures { w: across.div_ceil(h).max(1), nets, across, up: 0, layers, floor: 0 };
-    }
-    let track = |p: &Pin| match p.side {
+        EAST => t.n + 1,
+        other => no_side(other),
+    })
+}
+
+/// How many nets some track of a box must pass.
+fn up(t: &Ticket) -> usize {
+    most_passed(t, t.byte2, |p| match p.side {
+        WEST | EAST => p.place,
         SOUTH => 0,
-        NORTH => w + 1,
-        _ => p.place,
-    };
-    let up = most_passed(t, w, track);
+        NORTH => t.byte2 + 1,
+        other => no_side(other),
+    })
+}
+
+fn trunk_figures(t: &Ticket, layers: usize) -> Figures {
+    let across = across(t);
+    Figures { w: across.div_ceil(t.byte2).max(1), nets: t.nets().len(), across, up: 0, layers, floor: 0 }
+}
+
+fn box_figures(t: &Ticket) -> Figures {
+    let (n, w, across, up) = (t.n, t.byte2, across(t), up(t));
     let (a, b) = (across.div_ceil(w) as i64, up.div_ceil(n) as i64);
     let floor = [1, 2 * a - 1, 2 * b - 1, a + b].into_iter().max().unwrap() as usize;
-    Figures { w, nets, across, up, layers: 2 * n.max(w).div_ceil(n.min(w)) + 4, floor }
+    Figures { w, nets: t.nets().len(), across, up, layers: 2 * n.max(w).div_ceil(n.min(w)) + 4, floor }
+}
+
+pub fn figures(t: &Ticket) -> Figures {
+    match t.kind {
+        ROW => trunk_figures(t, 2 * t.byte2),
+        CHANNEL => trunk_figures(t, 2 * t.byte2 + 1),
+        BOX => box_figures(t),
+        other => no_kind(other),
+    }
 }
 
 /// number, place, kind, n, w, nets, across, up, layers, floor
@@ -61,9 +77,11 @@ pub fn line(t: &[u8]) -> String {
     if number != 0 {
         return format!("refused {number} at {place}\n");
     }
-    if kind == 3 {
-        return format!("box length {n} width {w} nets {nets} across {across} up {up} layers {layers} floor {floor}\n");
+    let trunks = format!("length {n} nets {nets} across {across} tracks {w} layers {layers}\n");
+    match kind as u8 {
+        ROW => "row ".to_string() + &trunks,
+        CHANNEL => "channel ".to_string() + &trunks,
+        BOX => format!("box length {n} width {w} nets {nets} across {across} up {up} layers {layers} floor {floor}\n"),
+        other => no_kind(other),
     }
-    let name = if kind == 1 { "row" } else { "channel" };
-    format!("{name} length {n} nets {nets} across {across} tracks {w} layers {layers}\n")
 }

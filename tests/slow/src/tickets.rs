@@ -1,6 +1,6 @@
 //! Tickets to try: the document's own, random good ones, and garbled ones.
 
-use crate::{EAST, NORTH, SOUTH, WEST};
+use crate::{no_kind, places, rules, BOX, CHANNEL, EAST, LARGEST_NET, LONGEST_SIDE, MOST_TRUNK_LAYERS, NORTH, ROW, SOUTH, WEST};
 use std::collections::BTreeMap;
 
 /// A small linear congruential generator, so that every machine makes the same.
@@ -35,7 +35,7 @@ pub type Places = BTreeMap<(usize, usize), u8>;
 pub fn encode(kind: u8, n: usize, byte2: usize, pins: &Places) -> Vec<u8> {
     let mut out = vec![kind, n as u8, byte2 as u8, 0];
     for side in [NORTH, SOUTH, WEST, EAST] {
-        let places = if side == NORTH || side == SOUTH { n } else { byte2 };
+        let places = places(side, n, byte2);
         let filled: Vec<usize> = (1..=places).filter(|i| pins.contains_key(&(side, *i))).collect();
         if filled.is_empty() {
             continue;
@@ -53,15 +53,8 @@ pub fn encode(kind: u8, n: usize, byte2: usize, pins: &Places) -> Vec<u8> {
 
 /// Every place that a ticket of this shape has.
 pub fn slots(kind: u8, n: usize, byte2: usize) -> Vec<(usize, usize)> {
-    let mut out: Vec<_> = (1..=n).map(|i| (NORTH, i)).collect();
-    if kind >= 2 {
-        out.extend((1..=n).map(|i| (SOUTH, i)));
-    }
-    if kind == 3 {
-        out.extend((1..=byte2).map(|j| (WEST, j)));
-        out.extend((1..=byte2).map(|j| (EAST, j)));
-    }
-    out
+    let (sides, _) = rules(kind).unwrap_or_else(|| no_kind(kind));
+    sides.iter().flat_map(|s| (1..=places(*s, n, byte2)).map(|i| (*s, i))).collect()
 }
 
 /// A good ticket of this shape with nets of two or more pins on about so many tenths of its places.
@@ -69,7 +62,7 @@ pub fn of_shape(r: &mut Numbers, kind: u8, n: usize, byte2: usize, tenths: usize
     let mut free = slots(kind, n, byte2);
     r.shuffle(&mut free);
     free.truncate(free.len() * tenths / 10);
-    let mut names: Vec<u8> = (1..=180).collect();
+    let mut names: Vec<u8> = (1..=LARGEST_NET).collect();
     r.shuffle(&mut names);
     let pairs = r.below(2) == 0;
     let mut pins = Places::new();
@@ -84,10 +77,14 @@ pub fn of_shape(r: &mut Numbers, kind: u8, n: usize, byte2: usize, tenths: usize
 }
 
 pub fn random(r: &mut Numbers) -> Vec<u8> {
-    let kind = 1 + r.below(3) as u8;
-    let longest = r.pick(&[4, 12, 90]);
+    let kind = r.pick(&[ROW, CHANNEL, BOX]);
+    let longest = r.pick(&[4, 12, LONGEST_SIDE]);
     let n = 1 + r.below(longest);
-    let widest = if kind == 3 { r.pick(&[4, 12, 90]) } else { 8 };
+    let widest = match kind {
+        ROW | CHANNEL => MOST_TRUNK_LAYERS,
+        BOX => r.pick(&[4, 12, LONGEST_SIDE]),
+        other => no_kind(other),
+    };
     let byte2 = 1 + r.below(widest);
     let tenths = r.below(11);
     of_shape(r, kind, n, byte2, tenths)
@@ -95,19 +92,18 @@ pub fn random(r: &mut Numbers) -> Vec<u8> {
 
 /// A box all of whose nets are on just the sides a and b.
 pub fn corner(r: &mut Numbers, n: usize, w: usize, a: usize, b: usize) -> Vec<u8> {
-    let mut places = |side: usize| {
-        let top = if side == NORTH || side == SOUTH { n } else { w };
-        let mut out: Vec<_> = (1..=top).map(|i| (side, i)).collect();
+    let mut shuffled = |side: usize| {
+        let mut out: Vec<_> = (1..=places(side, n, w)).map(|i| (side, i)).collect();
         r.shuffle(&mut out);
         out
     };
-    let (first, second) = (places(a), places(b));
+    let (first, second) = (shuffled(a), shuffled(b));
     let mut pins = Places::new();
     for (net, (p, q)) in first.into_iter().zip(second).enumerate() {
         pins.insert(p, net as u8 + 1);
         pins.insert(q, net as u8 + 1);
     }
-    encode(3, n, w, &pins)
+    encode(BOX, n, w, &pins)
 }
 
 /// The tickets of the document, by name.
@@ -143,7 +139,7 @@ pub fn damaged(r: &mut Numbers, t: &[u8]) -> Vec<u8> {
         2 => t.push(r.below(256) as u8),
         3 if t.len() > 4 => {
             let at = 4 + r.below(t.len() - 4);
-            t[at] = r.pick(&[0, 180, 181, 255]);
+            t[at] = r.pick(&[0, LARGEST_NET, LARGEST_NET + 1, 255]);
         }
         _ => {
             let (i, j) = (r.below(t.len()), r.below(t.len()));

@@ -2,8 +2,8 @@
 
 use crate::judge::Grid;
 use crate::maze::route;
-use crate::read;
 use crate::tickets::{of_shape, Numbers};
+use crate::{no_kind, read, BOX, CHANNEL, MOST_TRUNK_LAYERS, ROW};
 
 /// A wiring for Check: its ticket, its sizes, and the length of the scratch.
 pub struct Case {
@@ -22,9 +22,13 @@ pub fn case(ticket: &[u8], w: usize, k: usize, first: bool, wiring: Vec<u8>) -> 
 /// A random small ticket with a legal wiring.
 pub fn wired(r: &mut Numbers) -> Case {
     loop {
-        let kind = 1 + r.below(3) as u8;
+        let kind = r.pick(&[ROW, CHANNEL, BOX]);
         let g = Grid { n: 1 + r.below(9), w: 1 + r.below(6), k: 1 + r.below(7), first: r.below(2) == 1 };
-        let byte2 = if kind == 3 { g.w } else { 1 + r.below(8) };
+        let byte2 = match kind {
+            ROW | CHANNEL => 1 + r.below(MOST_TRUNK_LAYERS),
+            BOX => g.w,
+            other => no_kind(other),
+        };
         let tenths = r.below(8);
         let t = of_shape(r, kind, g.n, byte2, tenths);
         let ticket = read::read(&t).expect("a good ticket");

@@ -3,8 +3,8 @@
 use slow::judge::judge;
 use slow::lay::lay;
 use slow::read::read;
-use slow::tickets::{corner, of_shape, random, Numbers, DOCUMENT};
-use slow::{EAST, NORTH, SOUTH, WEST};
+use slow::tickets::{corner, encode, of_shape, random, slots, Numbers, DOCUMENT};
+use slow::{BOX, CHANNEL, EAST, LONGEST_SIDE, LONGEST_TICKET, MOST_TRUNK_LAYERS, NORTH, ROW, SOUTH, WEST};
 
 fn legal(t: &[u8]) {
     if let Ok(ticket) = read(t) {
@@ -32,9 +32,21 @@ fn corners_and_extremes() {
             legal(&corner(r, n, w, a, b));
         }
     }
-    for (kind, n, byte2) in [(1, 90, 1), (1, 90, 8), (2, 90, 1), (2, 90, 8), (3, 90, 90), (3, 90, 1), (3, 1, 90), (3, 89, 90), (3, 1, 1)] {
+    let (side, most) = (LONGEST_SIDE, MOST_TRUNK_LAYERS);
+    let trunks = [(ROW, side, 1), (ROW, side, most), (CHANNEL, side, 1), (CHANNEL, side, most)];
+    let boxes = [(side, side), (side, 1), (1, side), (side - 1, side), (1, 1)].map(|(n, w)| (BOX, n, w));
+    for (kind, n, byte2) in trunks.into_iter().chain(boxes) {
         for tenths in [0, 3, 7, 10] {
             legal(&of_shape(r, kind, n, byte2, tenths));
         }
     }
+}
+
+/// A box with a pin at every place of its four longest sides.
+#[test]
+fn longest_ticket() {
+    let pins = slots(BOX, LONGEST_SIDE, LONGEST_SIDE).into_iter().map(|place| (place, 1)).collect();
+    let t = encode(BOX, LONGEST_SIDE, LONGEST_SIDE, &pins);
+    assert_eq!(t.len(), LONGEST_TICKET);
+    assert!(read(&t).is_ok());
 }

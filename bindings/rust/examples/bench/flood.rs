@@ -1,11 +1,11 @@
 //! A plain flood fill with an explicit stack: what Check does, written for speed and without its promises or its limit to
 //! one byte of memory a point.
 
-use slow::{read, EAST, NORTH, SOUTH, WEST};
+use slow::{no_side, read, EAST, LONGEST_SIDE, MOST_LAYERS, NORTH, SOUTH, WEST, WIDEST_GRID};
 
-const N: usize = 90;
-const W: usize = 90;
-const K: usize = 255;
+const N: usize = LONGEST_SIDE;
+const W: usize = WIDEST_GRID;
+const K: usize = MOST_LAYERS;
 const AREA: usize = N * W;
 
 #[derive(Clone, Copy)]
@@ -63,7 +63,8 @@ impl Flood {
             NORTH => (place, W - 1),
             SOUTH => (place, 0),
             WEST => (0, place),
-            _ => (N - 1, place),
+            EAST => (N - 1, place),
+            other => no_side(other),
         };
         let lowest = if side == NORTH || side == SOUTH { 0 } else { 1 };
         for l in (lowest..K).step_by(2) {
@@ -89,11 +90,27 @@ impl Flood {
                 self.see(at + AREA, i, j, l + 1, net, x);
             }
             if l % 2 == 1 {
-                if i > 0 { self.see(at - 1, i - 1, j, l, net, x) } else { self.see_pin(WEST, j, net, x) }
-                if i + 1 < N { self.see(at + 1, i + 1, j, l, net, x) } else { self.see_pin(EAST, j, net, x) }
+                if i > 0 {
+                    self.see(at - 1, i - 1, j, l, net, x)
+                } else {
+                    self.see_pin(WEST, j, net, x)
+                }
+                if i + 1 < N {
+                    self.see(at + 1, i + 1, j, l, net, x)
+                } else {
+                    self.see_pin(EAST, j, net, x)
+                }
             } else {
-                if j > 0 { self.see(at - N, i, j - 1, l, net, x) } else { self.see_pin(SOUTH, i, net, x) }
-                if j + 1 < W { self.see(at + N, i, j + 1, l, net, x) } else { self.see_pin(NORTH, i, net, x) }
+                if j > 0 {
+                    self.see(at - N, i, j - 1, l, net, x)
+                } else {
+                    self.see_pin(SOUTH, i, net, x)
+                }
+                if j + 1 < W {
+                    self.see(at + N, i, j + 1, l, net, x)
+                } else {
+                    self.see_pin(NORTH, i, net, x)
+                }
             }
         }
     }

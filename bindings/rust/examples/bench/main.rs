@@ -1,13 +1,16 @@
 //! Ratios of one run, never a timed test: `cargo run --release --example bench` prints the tables of docs/BENCHMARKS.md.
 //!
-//! Lay is held against memset of the bytes that it writes, Check against a plain flood fill of the same wiring.
+//! Lay is held against plain code for the same construction and, as the limit to look at, against memset of the bytes that it
+//! writes; Check against a plain flood fill of the same wiring.
 
 mod flood;
+mod plain;
 mod wirings;
 
 use flood::Flood;
 use pozqaben::{check_with, lay_into, read, survey};
 use slow::tickets::{of_shape, Numbers};
+use slow::{BOX, CHANNEL, LONGEST_SIDE, MOST_LAYERS, ROW, WIDEST_GRID};
 use std::cell::{Cell, RefCell, RefMut};
 use std::hint::black_box;
 
@@ -46,112 +49,95 @@ fn times_of(call: &mut dyn FnMut()) -> usize {
     times
 }
 
-/// Seconds that a call takes: the best of many batches. Two calls are timed in turns, so that what else the
-/// machine does slows both alike.
-fn seconds_of_both(one: &mut dyn FnMut(), other: &mut dyn FnMut()) -> (f64, f64) {
-    let times = (times_of(one), times_of(other));
-    let best = |a: f64, b: f64| a.min(b);
-    (0..40).fold((f64::INFINITY, f64::INFINITY), |(a, b), _| (best(a, batch(times.0, one)), best(b, batch(times.1, other))))
-}
-
-/// The lines of a box's layers and nothing else: rows that are all alike, and rows of one value each, in turns.
-fn draw_lines(part: &mut [u8], n: usize, w: usize) {
-    let row = black_box([1; 90]);
-    for (l, layer) in part.chunks_exact_mut(n * w).enumerate() {
-        for (j, line) in layer.chunks_exact_mut(n).enumerate() {
-            if l % 2 == 0 { line.copy_from_slice(&row[..n]) } else { line.fill(row[j % 90]) }
+/// Seconds that each call takes: the best of many batches. The calls are timed in turns, so that what else the machine does
+/// slows all alike.
+fn seconds_of<const N: usize>(mut calls: [&mut dyn FnMut(); N]) -> [f64; N] {
+    let times: Vec<usize> = calls.iter_mut().map(|call| times_of(call)).collect();
+    let mut best = [f64::INFINITY; N];
+    for _ in 0..40 {
+        for a in 0..N {
+            best[a] = best[a].min(batch(times[a], calls[a]));
         }
     }
+    best
 }
 
-/// Lay and memset into the same buffer over and over, or into each part of a memory in turn, seconds a call.
-fn lay_and_memset(ticket: &[u8], size: usize, memory: &mut [u8]) -> (f64, f64) {
+/// Lay, the plain router and memset into the same buffer over and over, or into each part of a memory in turn.
+fn lay_row(ticket: &[u8], memory: &mut [u8]) -> [f64; 3] {
+    let read = slow::read::read(ticket).expect("a good ticket");
+    let g = slow::lay::grid(&read);
+    let size = g.size();
     let memory = RefCell::new(memory);
     let part = Cell::new(0);
     let next = || {
         part.set((part.get() + 1) % (memory.borrow().len() / size));
         RefMut::map(memory.borrow_mut(), |m| &mut m[part.get() * size..(part.get() + 1) * size])
     };
+    let mut drawn = vec![0; size];
+    plain::lay(&read, g, &mut drawn);
+    assert!(drawn == pozqaben::lay(ticket).expect("a good ticket").1, "the plain router draws what Lay draws");
     let lay = &mut || {
         lay_into(black_box(ticket), &mut next()).expect("a good ticket");
     };
+    let plain = &mut || plain::lay(black_box(&read), g, black_box(&mut next()));
     let memset = &mut || black_box(&mut *next()).fill(black_box(0));
-    seconds_of_both(lay, memset)
+    seconds_of([lay, plain, memset])
 }
 
-fn lay_table(r: &mut Numbers) {
-    println!("| lay | bytes | lay, µs | memset, µs | ratio | not in the cache: lay, µs | memset, µs | ratio |");
-    println!("|---|---|---|---|---|---|---|---|");
+fn lay_tables(r: &mut Numbers) {
+    let (side, full) = (LONGEST_SIDE, 10);
     let shapes = [
-        ("box 10 × 10", 3, 10, 10, 10),
-        ("box 90 × 90", 3, 90, 90, 10),
-        ("box 90 × 90, half full", 3, 90, 90, 5),
-        ("box 90 × 1", 3, 90, 1, 10),
-        ("box 1 × 90", 3, 1, 90, 10),
-        ("box 2 × 90", 3, 2, 90, 10),
-        ("row of 90, h 1", 1, 90, 1, 10),
-        ("channel of 90, h 1", 2, 90, 1, 10),
+        ("box 10 × 10", BOX, 10, 10, full),
+        ("box 90 × 90", BOX, side, side, full),
+        ("box 90 × 90, half full", BOX, side, side, 5),
+        ("box 90 × 1", BOX, side, 1, full),
+        ("box 1 × 90", BOX, 1, side, full),
+        ("box 2 × 90", BOX, 2, side, full),
+        ("row of 90, h 1", ROW, side, 1, full),
+        ("channel of 90, h 1", CHANNEL, side, 1, full),
     ];
+    let tickets = shapes.map(|(name, kind, n, byte2, tenths)| (name, of_shape(r, kind, n, byte2, tenths)));
     let mut large = vec![1; 256 << 20];
-    for (name, kind, n, byte2, tenths) in shapes {
-        let ticket = of_shape(r, kind, n, byte2, tenths);
-        let figures = survey(&ticket).expect("a good ticket");
-        let size = figures.n * figures.w * figures.layers;
-        let (lay, memset) = lay_and_memset(&ticket, size, &mut large[..size]);
-        let (cold_lay, cold_memset) = lay_and_memset(&ticket, size, &mut large);
-        let ratios = (lay / memset, cold_lay / cold_memset);
-        print!("| {name} | {size} | {:.2} | {:.2} | {:.1} ", lay * 1e6, memset * 1e6, ratios.0);
-        println!("| {:.2} | {:.2} | {:.1} |", cold_lay * 1e6, cold_memset * 1e6, ratios.1);
-    }
-}
-
-/// What the writing alone takes at 90 × 90, without a ticket: the lines, and what it costs to touch other memory as well.
-fn line_table() {
-    let (n, w, layers) = (90, 90, 6);
-    let mut buffer = vec![1; n * w * layers];
-    let mut other = vec![1; 4096];
-    println!("\n| writing 90 × 90 × 6 bytes | µs | times memset |\n|---|---|---|");
-    for (name, lines, elsewhere) in [
-        ("memset, and 4096 bytes elsewhere", false, true),
-        ("line by line", true, false),
-        ("line by line, and 4096 bytes elsewhere", true, true),
-    ] {
-        let target = RefCell::new(&mut buffer);
-        let work = &mut || {
-            let mut part = target.borrow_mut();
-            if lines { draw_lines(black_box(&mut part), n, w) } else { black_box(&mut part[..]).fill(black_box(0)) }
-            if elsewhere {
-                black_box(&mut other[..]).fill(black_box(0));
-            }
-        };
-        let memset = &mut || black_box(&mut target.borrow_mut()[..]).fill(black_box(0));
-        let (time, memset) = seconds_of_both(work, memset);
-        println!("| {name} | {:.2} | {:.1} |", time * 1e6, time / memset);
+    for (where_to, cached) in [("one buffer", true), ("256 MB in turn", false)] {
+        println!("| lay, into {where_to} | bytes | lay, µs | plain, µs | lay / plain | memset, µs | lay / memset |");
+        println!("|---|---|---|---|---|---|---|");
+        for (name, ticket) in &tickets {
+            let figures = survey(ticket).expect("a good ticket");
+            let size = figures.n * figures.w * figures.layers;
+            let [lay, plain, memset] = lay_row(ticket, if cached { &mut large[..size] } else { &mut large });
+            let [a, b, c] = [lay, plain, memset].map(|time| time * 1e6);
+            println!("| {name} | {size} | {a:.2} | {b:.2} | {:.2} | {c:.2} | {:.1} |", lay / plain, lay / memset);
+        }
+        println!();
     }
 }
 
 fn check_table(r: &mut Numbers) {
-    println!("\n| check, 90 × 90 × 255 | verdict | check, ms | flood fill, ms | ratio |\n|---|---|---|---|---|");
-    let mut scratch = vec![0; 90 * 90 * 255];
+    let (w, k) = (WIDEST_GRID, MOST_LAYERS);
+    println!("| check, {LONGEST_SIDE} × {w} × {k} | verdict | check, ms | flood fill, ms | check / flood fill |\n|---|---|---|---|---|");
+    let mut scratch = vec![0; LONGEST_SIDE * w * k];
     let mut flood = Flood::new();
     for (name, ticket, wiring) in wirings::all(r) {
         let verdict = |refused: Option<u64>| refused.map_or("legal".to_string(), |net| format!("15 at {net}"));
-        let found = check_with(&ticket, 90, 255, false, &wiring, &mut scratch).err().map(|e| e.place as u64);
+        let found = check_with(&ticket, w, k, false, &wiring, &mut scratch).err().map(|e| e.place as u64);
         assert_eq!(found, flood.fill(&ticket, &wiring), "{name}");
         let ours = &mut || {
-            let _ = black_box(check_with(black_box(&ticket), 90, 255, false, &wiring, &mut scratch));
+            let _ = black_box(check_with(black_box(&ticket), w, k, false, &wiring, &mut scratch));
         };
         let plain = &mut || {
             black_box(flood.fill(black_box(&ticket), &wiring));
         };
-        let (check, plain) = seconds_of_both(ours, plain);
+        let [check, plain] = seconds_of([ours, plain]);
         println!("| {name} | {} | {:.2} | {:.2} | {:.2} |", verdict(found), check * 1e3, plain * 1e3, check / plain);
     }
 }
 
 fn call_table(r: &mut Numbers) {
     println!("\n| ticket | bytes | read, calls a second | survey, calls a second |\n|---|---|---|---|");
-    for (name, kind, n, byte2) in [("box 4 × 1", 3, 4, 1), ("row of 90", 1, 90, 1), ("channel of 90", 2, 90, 1), ("box 90 × 90", 3, 90, 90)] {
+    let side = LONGEST_SIDE;
+    let shapes =
+        [("box 4 × 1", BOX, 4, 1), ("row of 90", ROW, side, 1), ("channel of 90", CHANNEL, side, 1), ("box 90 × 90", BOX, side, side)];
+    for (name, kind, n, byte2) in shapes {
         let ticket = of_shape(r, kind, n, byte2, 10);
         let reading = &mut || {
             black_box(read(black_box(&ticket))).expect("a good ticket");
@@ -159,7 +145,7 @@ fn call_table(r: &mut Numbers) {
         let surveying = &mut || {
             black_box(survey(black_box(&ticket))).expect("a good ticket");
         };
-        let (reading, surveying) = seconds_of_both(reading, surveying);
+        let [reading, surveying] = seconds_of([reading, surveying]);
         println!("| {name} | {} | {:.0} | {:.0} |", ticket.len(), 1.0 / reading, 1.0 / surveying);
     }
 }
@@ -167,8 +153,7 @@ fn call_table(r: &mut Numbers) {
 fn main() {
     let r = &mut Numbers::new(601);
     println!("{} cores\n", std::thread::available_parallelism().map_or(1, |c| c.get()));
-    lay_table(r);
-    line_table();
+    lay_tables(r);
     check_table(r);
     call_table(r);
 }

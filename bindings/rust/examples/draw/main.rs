@@ -4,7 +4,7 @@
 mod svg;
 
 use pozqaben::{lay, layer_view, survey, Kind, Laid, Refusal, Survey};
-use slow::{Pin, EAST, NORTH, SOUTH, WEST};
+use slow::{no_side, Pin, EAST, NORTH, SOUTH, WEST};
 use std::io::{Read, Write};
 use svg::{Picture, Point};
 
@@ -73,7 +73,8 @@ impl Panel<'_> {
             NORTH => (p.place, w),
             SOUTH => (p.place, 1),
             WEST => (1, p.place),
-            _ => (n, p.place),
+            EAST => (n, p.place),
+            other => no_side(other),
         };
         let (x, y) = self.at(beside);
         let out = CELL / 2 + EDGE / 2;
@@ -81,7 +82,8 @@ impl Panel<'_> {
             NORTH => (x, y - out),
             SOUTH => (x, y + out),
             WEST => (x - out, y),
-            _ => (x + out, y),
+            EAST => (x + out, y),
+            other => no_side(other),
         };
         if self.net(self.points, beside) == p.net {
             picture.metal((x, y), place, p.net);
@@ -112,7 +114,7 @@ impl Panel<'_> {
 fn bound(s: &Survey) -> String {
     match s.kind {
         Kind::Box => format!("floor {}: every legal wiring of this box has at least so many layers", s.floor),
-        _ => format!("{} tracks: no legal wiring with as many horizontal layers has fewer", s.w),
+        Kind::Row | Kind::Channel => format!("{} tracks: no legal wiring with as many horizontal layers has fewer", s.w),
     }
 }
 

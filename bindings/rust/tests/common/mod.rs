@@ -2,7 +2,8 @@
 #![allow(dead_code)]
 
 use pozqaben::raw;
-use slow::tickets::{damaged, encode, of_shape, random, Numbers, Places, DOCUMENT};
+use slow::tickets::{damaged, encode, of_shape, random, slots, Numbers, Places, DOCUMENT};
+use slow::{BOX, CHANNEL, LARGEST_NET, LONGEST_SIDE, LONGEST_TICKET, MOST_TRUNK_LAYERS, ROW};
 
 pub fn read(ticket: &[u8], answer: &mut [u64]) -> bool {
     unsafe { raw::pozqaben_read(ticket.as_ptr(), ticket.len(), answer.as_mut_ptr(), answer.len()) }
@@ -78,11 +79,16 @@ pub fn ticket(r: &mut Numbers) -> Vec<u8> {
         2 | 3 => damaged(r, &t),
         4 => {
             let once = damaged(r, &t);
-            if once.is_empty() { once } else { damaged(r, &once) }
+            if once.is_empty() {
+                once
+            } else {
+                damaged(r, &once)
+            }
         }
         _ => {
-            let mut t = vec![r.below(5) as u8, r.below(93) as u8, r.below(93) as u8, r.below(17) as u8];
-            let top = r.pick(&[2, 8, 190, 256]);
+            let (kind, n, byte2, sides) = (r.below(BOX as usize + 2), r.below(LONGEST_SIDE + 3), r.below(LONGEST_SIDE + 3), r.below(17));
+            let mut t = [kind, n, byte2, sides].map(|x| x as u8).to_vec();
+            let top = r.pick(&[2, 8, LARGEST_NET as usize + 10, 256]);
             t.extend((0..r.below(40)).map(|_| r.below(top) as u8));
             t
         }
@@ -93,17 +99,20 @@ pub fn ticket(r: &mut Numbers) -> Vec<u8> {
 pub fn extremes() -> Vec<Vec<u8>> {
     let r = &mut Numbers::new(17);
     let mut out: Vec<Vec<u8>> = DOCUMENT.iter().map(|(_, t)| t.to_vec()).collect();
-    for (kind, n, byte2) in [(1, 1, 1), (1, 90, 1), (1, 90, 8), (2, 1, 8), (2, 90, 1), (2, 90, 8), (3, 1, 1), (3, 1, 90), (3, 90, 1), (3, 90, 90), (3, 89, 90)] {
+    let (side, most) = (LONGEST_SIDE, MOST_TRUNK_LAYERS);
+    let trunks = [(ROW, 1, 1), (ROW, side, 1), (ROW, side, most), (CHANNEL, 1, most), (CHANNEL, side, 1), (CHANNEL, side, most)];
+    let boxes = [(1, 1), (1, side), (side, 1), (side, side), (side - 1, side)].map(|(n, w)| (BOX, n, w));
+    for (kind, n, byte2) in trunks.into_iter().chain(boxes) {
         out.extend([0, 2, 5, 8, 10].map(|tenths| of_shape(r, kind, n, byte2, tenths)));
     }
-    let full: Places = (0..4).flat_map(|s| (1..=90).map(move |i| ((s, i), (2 * i - s % 2) as u8))).collect();
-    out.push(encode(3, 90, 90, &full));
-    let one: Places = (0..4).flat_map(|s| (1..=90).map(move |i| ((s, i), 180))).collect();
-    out.push(encode(3, 90, 90, &one));
-    out.extend([vec![], vec![0; 1000], vec![255; 1000], vec![3; 413]]);
-    for kind in [0, 1, 2, 3, 4, 255] {
-        for n in [0, 1, 90, 91, 255] {
-            for byte2 in [0, 1, 8, 9, 90, 91, 255] {
+    let full = |net: fn(usize, usize) -> u8| -> Places { slots(BOX, side, side).into_iter().map(|(s, i)| ((s, i), net(s, i))).collect() };
+    out.push(encode(BOX, side, side, &full(|s, i| (2 * i - s % 2) as u8)));
+    out.push(encode(BOX, side, side, &full(|_, _| LARGEST_NET)));
+    out.extend([vec![], vec![0; 1000], vec![255; 1000], vec![BOX; LONGEST_TICKET + 1]]);
+    let (side, most) = (side as u8, most as u8);
+    for kind in [0, ROW, CHANNEL, BOX, BOX + 1, 255] {
+        for n in [0, 1, side, side + 1, 255] {
+            for byte2 in [0, 1, most, most + 1, side, side + 1, 255] {
                 out.extend([0, 1, 3, 15, 16, 255].map(|sides| vec![kind, n, byte2, sides]));
             }
         }

@@ -6,15 +6,6 @@ use borrow.Author.Needs.{needs}
 use Rattle.channel.proofs.lay_channel.Statement.{statement}
 use Rattle.channel.proofs.lay_channel.Tie as tie
 
-place-trunks-requires : tie.Need-place-trunks-requires
-place-trunks-requires c κs = search needs
-
-mul-t9 : tie.Need-mul-t9
-mul-t9 c = search needs
-
-add-t10 : tie.Need-add-t10
-add-t10 c = search needs
-
 lay-layers-requires : tie.Need-lay-layers-requires
 lay-layers-requires c κs = search needs
 
@@ -25,9 +16,6 @@ lay-trunks-requires c κs =
     let c9 = c7 .before .before in
     may-cross (take (c9 .args .n .0) (c9 .args .north .now)) (take (c9 .args .n .0) (c9 .args .south .now)) (c7 .place-trunks .result) (c9 .pre)
     (omega arith) (omega arith) (c7 .place-trunks .ensures) (c3 .lay-layers .ensures)
-
-same-length : tie.Need-same-length
-same-length c = search needs
 
 returns : tie.Need-returns
 returns c =
@@ -40,12 +28,5 @@ returns c =
 
 pub lay-channel-spec : {M : Type 1} → statement M
 lay-channel-spec =
-    tie.close
-    (tie.spec
-    place-trunks-requires
-    mul-t9
-    add-t10
-    lay-layers-requires
-    lay-trunks-requires
-    same-length
-    returns)
+    tie.close (tie.spec (λ c κs. search needs) (λ c. search needs) (λ c. search needs) lay-layers-requires lay-trunks-requires
+    (λ c. search needs) returns)

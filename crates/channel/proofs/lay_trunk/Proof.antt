@@ -1,66 +1,66 @@
--- `channel::lay_trunk` meets its contract: the run starts at its first point's index and lies in the grid.
-use Prim.Native.Nat.{_+_, _*_, _/_, _%_}
+-- `channel::lay_trunk` meets its contract: what is painted in the layer's part is painted in the wiring.
+use mathlib.Core.Path.{ap}
+use Prim.Native.Nat.{ℕ, _+_}
 use native.Mathlib.Omega.{arith}
 use Rattle.grid.specs.Grid.{upright}
-use Rattle.channel.proofs.Runs.{run-in}
+use Rattle.grid.proofs.Buffer.{layer-in}
+use Rattle.channel.proofs.Runs.{run-put}
 use borrow.Author.Needs.{needs}
 use Rattle.channel.proofs.lay_trunk.Statement.{statement}
 use Rattle.channel.proofs.lay_trunk.Tie as tie
 
-rem-paint-run : tie.Need-rem-paint-run
-rem-paint-run c = search needs
+add-t15 : tie.Need-add-t15
+add-t15 c = rw (c .track-count .ensures) (search needs)
 
-add-paint-run : tie.Need-add-paint-run
-add-paint-run c = search needs
+mul-t15 : tie.Need-mul-t15
+mul-t15 c = rw (c .track-count .ensures) (search needs)
 
-div-paint-run : tie.Need-div-paint-run
-div-paint-run c = search needs
-
-mul-paint-run : tie.Need-mul-paint-run
-mul-paint-run c = search needs
-
-add-paint-run-2 : tie.Need-add-paint-run-2
-add-paint-run-2 c = search needs
+add-t16 : tie.Need-add-t16
+add-t16 c = rw (c .track-count .ensures) (search needs)
 
 index-of-requires : tie.Need-index-of-requires
-index-of-requires c κs = search needs
+index-of-requires c κs = rw (c .track-count .ensures) (search needs)
 
-sub-paint-run : tie.Need-sub-paint-run
-sub-paint-run c = search needs
-
-add-paint-run-3 : tie.Need-add-paint-run-3
-add-paint-run-3 c = search needs
-
-paint-run-requires : tie.Need-paint-run-requires
-paint-run-requires c κs =
-    let c3 = c .before .before .before in
-    let c5 = c3 .before .before in
+add-to : tie.Need-add-to
+add-to c =
+    let c2 = c .before .before in
+    let c4 = c2 .before .before in
     omega (
       arith,
-      c3 .index-of .ensures,
-      run-in (upright (c5 .args .n .0) (c5 .args .w .0) (c5 .args .k .0)) (c5 .args .left .0) (c5 .args .right .0)
-          (c5 .args .place % c5 .args .w .0 + 1) (2 * (c5 .args .place / c5 .args .w .0) + 2) (c5 .pre .1 .0) (c5 .pre .1 .1) (c5 .pre .1 .2),
-      c5 .pre .0,
+      c .area .ensures,
+      rw (c2 .track-count .ensures) at (c .before .index-of .ensures),
+      layer-in (upright (c4 .args .n .0) (c4 .args .w .0) (c4 .args .k .0)) _ (c4 .pre .1 .2 .2),
+      c4 .pre .0,
+      c4 .good,
     )
 
-same-length : tie.Need-same-length
-same-length c = search needs
+part-paint-trunk-end : tie.Need-part-paint-trunk-end
+part-paint-trunk-end c =
+    let c2 = c .before .before in
+    let c4 = c2 .before .before in
+    omega (
+      arith,
+      c .area .ensures,
+      rw (c2 .track-count .ensures) at (c .before .index-of .ensures),
+      layer-in (upright (c4 .args .n .0) (c4 .args .w .0) (c4 .args .k .0)) _ (c4 .pre .1 .2 .2),
+      c4 .pre .0,
+    )
+
+paint-trunk-requires : tie.Need-paint-trunk-requires
+paint-trunk-requires c κs = rw (c .before .before .before .track-count .ensures) (search needs)
 
 returns : tie.Need-returns
-returns c = rw (← c .before .before .before .before .before .before .index-of .ensures) (c .before .before .paint-run .ensures)
+returns c =
+    let c2 = c .before .before in
+    let c4 = c2 .before .before in
+    let c5 = c4 .before in
+    let e = c5 .before .track-count .ensures in
+    let c8 = c5 .before .before .before in
+    run-put (c8 .pre .1 .0) (c8 .pre .1 .1) (c8 .pre .1 .2) _ _ (rw e at (c5 .index-of .ensures))
+    (ap (λ (u : ℕ). c5 .index-of .result + u) (c4 .area .ensures)) (c8 .pre .0 .3) (rw e at (c2 .paint-trunk .ensures))
 
 pub lay-trunk-spec : {M : Type 1} → statement M
 lay-trunk-spec =
-    tie.close
-    (tie.spec
-    rem-paint-run
-    add-paint-run
-    div-paint-run
-    mul-paint-run
-    add-paint-run-2
-    index-of-requires
-    sub-paint-run
-    add-paint-run-3
-    paint-run-requires
-    same-length
+    tie.close (tie.spec (λ c κs. search needs) (λ c. search needs) add-t15 (λ c. search needs) mul-t15 add-t16 index-of-requires
+    (λ c κs. search needs) add-to (λ c. search needs) (λ c. search needs) part-paint-trunk-end paint-trunk-requires (λ c. search needs)
     returns)

@@ -4,44 +4,20 @@ use mathlib.Core.Path.{_≡_}
 use native.Mathlib.Omega.{arith}
 use borrow.Author.Needs.{needs}
 use Rattle.grid.specs.Grid.{upright}
-use Rattle.grid.specs.Legal.{topNet}
+use Rattle.terms.specs.Limits.{largestNet}
 use Rattle.channel.specs.Laying.{planOf, Crossed}
 use Rattle.channel.proofs.Runs.{cross-start, cross-none, cross-at, seats}
 use Rattle.channel.proofs.lay_trunks.Statement.{statement}
 use Rattle.channel.proofs.lay_trunks.Tie as tie
 
 abbrev Inv-loop : tie.InvT-loop
-Inv-loop wiring₀ n w k t m₀ wiring m = (m ≤ topNet) × Crossed (planOf t (w .0)) (upright (n .0) (w .0) (k .0)) wiring₀ wiring m
+Inv-loop wiring₀ n w k t m₀ wiring m = (m ≤ largestNet) × Crossed (planOf t (w .0)) (upright (n .0) (w .0) (k .0)) wiring₀ wiring m
 
 abbrev μ-loop : tie.MeasureT-loop
-μ-loop wiring₀ n w k t m₀ wiring m = topNet - m
+μ-loop wiring₀ n w k t m₀ wiring m = largestNet - m
 
 loop-holds : tie.Need-loop-holds Inv-loop μ-loop
 loop-holds c = (search needs, cross-start (c .before .pre .1 .1))
-
-add-m : tie.Need-add-m Inv-loop μ-loop
-add-m c = search needs
-
-element-copy-out-wide : tie.Need-element-copy-out-wide Inv-loop μ-loop
-element-copy-out-wide c = search needs
-
-wide-requires : tie.Need-wide-requires Inv-loop μ-loop
-wide-requires c κs = search needs
-
-element-copy-out-wide-2 : tie.Need-element-copy-out-wide-2 Inv-loop μ-loop
-element-copy-out-wide-2 c = search needs
-
-wide-requires-2 : tie.Need-wide-requires-2 Inv-loop μ-loop
-wide-requires-2 c κs = search needs
-
-element-copy-out-wide-3 : tie.Need-element-copy-out-wide-3 Inv-loop μ-loop
-element-copy-out-wide-3 c = search needs
-
-wide-requires-3 : tie.Need-wide-requires-3 Inv-loop μ-loop
-wide-requires-3 c κs = search needs
-
-cast-lay-trunk : tie.Need-cast-lay-trunk Inv-loop μ-loop
-cast-lay-trunk c = search needs
 
 lay-trunk-requires : tie.Need-lay-trunk-requires Inv-loop μ-loop
 lay-trunk-requires c κs =
@@ -54,9 +30,6 @@ lay-trunk-requires c κs =
       seats (c11 .args .t2) (c11 .args .w .0)
           (c9 .loop .m + 1) (c11 .pre .1 .0) (c6 .wide .ensures) (c4 .wide2 .ensures) (c .before .wide3 .ensures) (c3 .if1 .taken),
     )
-
-loop-less : tie.Need-loop-less Inv-loop μ-loop
-loop-less c = search needs
 
 loop-again : tie.Need-loop-again Inv-loop μ-loop
 loop-again c =
@@ -72,9 +45,6 @@ loop-again c =
           (c4 .wide3 .ensures) (c6 .if1 .taken) (c2 .lay-trunk .ensures),
     )
 
-loop-less-2 : tie.Need-loop-less-2 Inv-loop μ-loop
-loop-less-2 c = search needs
-
 loop-again-2 : tie.Need-loop-again-2 Inv-loop μ-loop
 loop-again-2 c =
     let c3 = c .before .before .before in
@@ -86,27 +56,10 @@ same-length : tie.Need-same-length Inv-loop μ-loop
 same-length c = c .before .loop .inv .1 .long
 
 returns : tie.Need-returns Inv-loop μ-loop
-returns c = let e : c .before .loop .m ≡ topNet = omega arith in rw e at (c .before .loop .inv .1)
+returns c = let e : c .before .loop .m ≡ largestNet = omega arith in rw e at (c .before .loop .inv .1)
 
 pub lay-trunks-spec : {M : Type 1} → statement M
 lay-trunks-spec =
-    tie.close
-    (tie.spec
-    Inv-loop
-    μ-loop
-    loop-holds
-    add-m
-    element-copy-out-wide
-    wide-requires
-    element-copy-out-wide-2
-    wide-requires-2
-    element-copy-out-wide-3
-    wide-requires-3
-    cast-lay-trunk
-    lay-trunk-requires
-    loop-less
-    loop-again
-    loop-less-2
-    loop-again-2
-    same-length
-    returns)
+    tie.close (tie.spec Inv-loop μ-loop loop-holds (λ c. search needs) (λ c. search needs) (λ c κs. search needs) (λ c. search needs)
+    (λ c κs. search needs) (λ c. search needs) (λ c κs. search needs) (λ c. search needs) lay-trunk-requires (λ c. search needs)
+    loop-again (λ c. search needs) loop-again-2 same-length returns)

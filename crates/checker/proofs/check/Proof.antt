@@ -3,71 +3,59 @@ use mathlib.Core.Path.{sym}
 use borrow.Author.Needs.{needs}
 use lib.Seq.{length-take-le}
 use denote.Ref.{now}
-use Rattle.checker.proofs.Refusals.{read-well, room, fits, accepted, refused}
+use Rattle.ticket.proofs.Good.{reading-good}
+use Rattle.checker.proofs.Refusals.{room, fits, accepted, refused}
 use Rattle.checker.proofs.check.Statement.{statement}
 use Rattle.checker.proofs.check.Tie as tie
 
-parse-requires : tie.Need-parse-requires
-parse-requires c κs = search needs
-
 early-refusal-requires : tie.Need-early-refusal-requires
-early-refusal-requires c κs =
-    let args = c .before .before .before .before .before .args in
-    let parse = c .before .parse in
-    λ e. read-well (now (args .ticket)) (parse .result) (parse .ensures) e .columns .1
+early-refusal-requires c κs = reading-good _ (c .parse .ensures)
 
+-- what was given stands open, so that the goal itself asks for the scratch as it was
 returns : tie.Need-returns
 returns c =
-    let args = c .before .before .before .before .before .before .before .before .args in
-    let parse = c .before .before .before .before .parse in
-    let early-refusal = c .before .before .early-refusal in
-    refused (now (args .ticket)) (parse .result) (parse .ensures) (args .w .0) (args .k .0) (args .first) (now (args .wiring)) (now (args .scratch)) (early-refusal .result) (early-refusal .ensures) (c .if1 .taken)
-
-pin-list-requires : tie.Need-pin-list-requires
-pin-list-requires c κs = search needs
+    let parse = c .before .before .before .parse in
+    let early = c .before .before .early-refusal in
+    refused _ _ (parse .ensures) _ _ _ _ _ _ (early .ensures) (c .if1 .taken)
 
 slice-relend-prefix-judge-list : tie.Need-slice-relend-prefix-judge-list
 slice-relend-prefix-judge-list c =
-    let args = c .before .before .before .before .before .before .before .before .before .before .args in
-    let parse = c .before .before .before .before .before .before .parse in
-    let early-refusal = c .before .before .before .before .early-refusal in
-    room (now (args .ticket)) (parse .result) (parse .ensures) (args .w .0) (args .k .0) (args .first) (now (args .wiring)) (now (args .scratch)) (early-refusal .result) (early-refusal .ensures) (c .before .before .if1 .left)
+    let args = c .before .before .before .before .before .before .before .before .before .args in
+    let parse = c .before .before .before .before .before .parse in
+    let early = c .before .before .before .before .early-refusal in
+    room (now (args .ticket)) (parse .result) (parse .ensures) (args .w .0) (args .k .0) (args .first) (now (args .wiring)) (now (args .scratch)) (early .result) (early .ensures) (c .before .before .if1 .left)
 
 slice-aggregate-judge-list : tie.Need-slice-aggregate-judge-list
-slice-aggregate-judge-list c =
-    let args = c .before .before .before .before .before .before .before .before .before .before .before .args in
-    let parse = c .before .before .before .before .before .before .before .parse in
-    let early-refusal = c .before .before .before .before .before .early-refusal in
-    sym (length-take-le _ _ (room (now (args .ticket)) (parse .result) (parse .ensures) (args .w .0) (args .k .0) (args .first) (now (args .wiring)) (now (args .scratch)) (early-refusal .result) (early-refusal .ensures) (c .before .before .before .if1 .left)))
+slice-aggregate-judge-list c = sym (length-take-le _ _ (slice-relend-prefix-judge-list (c .before)))
 
 judge-list-requires : tie.Need-judge-list-requires
 judge-list-requires c κs =
-    let args = c .before .before .before .before .before .before .before .before .before .before .before .args in
-    let parse = c .before .before .before .before .before .before .before .parse in
-    let early-refusal = c .before .before .before .before .before .early-refusal in
-    let if1 = c .before .before .before .if1 in
-    fits (now (args .ticket)) (parse .result) (parse .ensures) (args .w .0) (args .k .0) (args .first) (now (args .wiring)) (now (args .scratch)) (early-refusal .result) (early-refusal .ensures) (if1 .left) _ (length-take-le _ _ (room (now (args .ticket)) (parse .result) (parse .ensures) (args .w .0) (args .k .0) (args .first) (now (args .wiring)) (now (args .scratch)) (early-refusal .result) (early-refusal .ensures) (if1 .left)))
+    let args = c .before .before .before .before .before .before .before .before .before .before .args in
+    let parse = c .before .before .before .before .before .before .parse in
+    let early = c .before .before .before .before .before .early-refusal in
+    fits (now (args .ticket)) (parse .result) (parse .ensures) (args .w .0) (args .k .0) (args .first) (now (args .wiring)) (now (args .scratch)) (early .result) (early .ensures)
+    (c .before .before .before .if1 .left) _ (length-take-le _ _ (slice-relend-prefix-judge-list (c .before)))
 
 same-length : tie.Need-same-length
 same-length c = search needs
 
 returns-2 : tie.Need-returns-2
 returns-2 c =
-    let args = c .before .before .before .before .before .before .before .before .before .before .before .before .before .before .args in
-    let parse = c .before .before .before .before .before .before .before .before .before .before .parse in
-    let early-refusal = c .before .before .before .before .before .before .before .before .early-refusal in
-    let if1 = c .before .before .before .before .before .before .if1 in
+    let args = c .before .before .before .before .before .before .before .before .before .before .before .before .before .args in
+    let parse = c .before .before .before .before .before .before .before .before .before .parse in
+    let early = c .before .before .before .before .before .before .before .before .early-refusal in
     let pin-list = c .before .before .before .before .pin-list in
-    accepted (now (args .ticket)) (parse .result) (parse .ensures) (args .w .0) (args .k .0) (args .first) (now (args .wiring)) (now (args .scratch)) (early-refusal .result) (early-refusal .ensures) (if1 .left) _ (pin-list .result) _ (same-length c) (pin-list .ensures) (c .before .before .judge-list .ensures)
+    accepted (now (args .ticket)) (parse .result) (parse .ensures) (args .w .0) (args .k .0) (args .first) (now (args .wiring)) (now (args .scratch)) (early .result) (early .ensures)
+    (c .before .before .before .before .before .before .if1 .left) _ (pin-list .result) _ (same-length c) (pin-list .ensures) (c .before .before .judge-list .ensures)
 
 pub check-spec : {M : Type 1} → statement M
 check-spec =
     tie.close
     (tie.spec
-    parse-requires
+    (λ c κs. search needs)
     early-refusal-requires
     returns
-    pin-list-requires
+    (λ c κs. search needs)
     slice-relend-prefix-judge-list
     slice-aggregate-judge-list
     judge-list-requires

@@ -24,9 +24,6 @@ slice-write-m c = omega (arith, c .before .loop .inv)
 add-q : tie.Need-add-q Inv-loop μ-loop
 add-q c = omega (arith, c .before .loop .inv, c .before .before .good)
 
-loop-less : tie.Need-loop-less Inv-loop μ-loop
-loop-less c = search needs
-
 loop-again : tie.Need-loop-again Inv-loop μ-loop
 loop-again c =
     let loop = c .before .loop in
@@ -49,7 +46,7 @@ clear-spec =
     loop-holds
     slice-write-m
     add-q
-    loop-less
+    (λ c. search needs)
     loop-again
     same-length
     returns)

@@ -55,9 +55,6 @@ shared-slice-read-wide c =
     let loop = c .before .before .before .before .loop in
     omega (arith, start .pre .0, c .before .before .loop2 .inv .1, c .before .loop2-test .taken, rows-in (layers .l) (start .args .k) (start .args .n * start .args .w) (layers-test .taken), rows-in (loop .j) (start .args .w) (start .args .n) (c .before .before .before .loop-test .taken))
 
-wide-requires : tie.Need-wide-requires Inv-loop2 μ-loop2 Inv-loop μ-loop Inv-layers μ-layers
-wide-requires c κs = search needs
-
 shared-slice-read-if1 : tie.Need-shared-slice-read-if1 Inv-loop2 μ-loop2 Inv-loop μ-loop Inv-layers μ-layers
 shared-slice-read-if1 c =
     let pre = c .before .before .before .before .before .before .before .before .before .before .before .pre in
@@ -157,7 +154,7 @@ first-unknown-spec =
     loop-holds
     loop2-holds
     shared-slice-read-wide
-    wide-requires
+    (λ c κs. search needs)
     shared-slice-read-if1
     add-q
     add-i

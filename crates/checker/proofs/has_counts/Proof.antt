@@ -4,12 +4,6 @@ use borrow.Author.Needs.{needs}
 use Rattle.checker.proofs.has_counts.Statement.{statement}
 use Rattle.checker.proofs.has_counts.Tie as tie
 
-has-width-requires : tie.Need-has-width-requires
-has-width-requires c κs = search needs
-
-is-within-requires : tie.Need-is-within-requires
-is-within-requires c κs = search needs
-
 returns : tie.Need-returns
 returns c = simp (sym (c .before .before .has-width .ensures) ∙ c .before .if1 .taken, ← c .is-within .ensures)
 
@@ -17,4 +11,4 @@ returns-2 : tie.Need-returns-2
 returns-2 c = simp (sym (c .before .has-width .ensures) ∙ c .if1 .left)
 
 pub has-counts-spec : {M : Type 1} → statement M
-has-counts-spec = tie.close (tie.spec has-width-requires is-within-requires returns returns-2)
+has-counts-spec = tie.close (tie.spec (λ c κs. search needs) (λ c κs. search needs) returns returns-2)

@@ -27,12 +27,6 @@ shared-slice-read-unmarked-2 c =
     let pre = c .before .before .before .before .before .before .pre in
     omega (arith, c .before .before .before .loop .inv, pre)
 
-unmarked-requires : tie.Need-unmarked-requires Inv-loop μ-loop
-unmarked-requires c κs = search needs
-
-smaller-requires : tie.Need-smaller-requires Inv-loop μ-loop
-smaller-requires c κs = search needs
-
 add-q : tie.Need-add-q Inv-loop μ-loop
 add-q c =
     let loop = c .before .before .before .before .before .loop in
@@ -66,8 +60,8 @@ lowest-spec =
     loop-holds
     shared-slice-read-unmarked
     shared-slice-read-unmarked-2
-    unmarked-requires
-    smaller-requires
+    (λ c κs. search needs)
+    (λ c κs. search needs)
     add-q
     loop-less
     loop-again

@@ -15,9 +15,6 @@ lowest-requires-2 c κs =
     let pre = c .before .before .before .before .before .pre in
     pre .1
 
-smaller-requires : tie.Need-smaller-requires
-smaller-requires c κs = search needs
-
 returns : tie.Need-returns
 returns c =
     let args = c .before .before .before .before .before .before .before .before .args in
@@ -36,4 +33,4 @@ returns-2 c =
 
 pub lowest-of-spec : {M : Type 1} → statement M
 lowest-of-spec =
-    tie.close (tie.spec lowest-requires lowest-requires-2 smaller-requires returns returns-2)
+    tie.close (tie.spec lowest-requires lowest-requires-2 (λ c κs. search needs) returns returns-2)

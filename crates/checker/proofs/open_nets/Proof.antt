@@ -27,14 +27,8 @@ shared-slice-read-wide c =
     let loop = c .before .before .loop in
     omega (arith, loop .inv .0, loop .inv .1, c .before .loop-test .taken)
 
-wide-requires : tie.Need-wide-requires Inv-loop μ-loop
-wide-requires c κs = search needs
-
 array-read-unless-known : tie.Need-array-read-unless-known Inv-loop μ-loop
 array-read-unless-known c = omega (arith, c .wide .ensures, c .before .shared-slice-known2 .given (c .before .before .before .loop .a))
-
-unless-known-requires : tie.Need-unless-known-requires Inv-loop μ-loop
-unless-known-requires c κs = search needs
 
 slice-write-s : tie.Need-slice-write-s Inv-loop μ-loop
 slice-write-s c =
@@ -84,9 +78,9 @@ open-nets-spec =
     array-write-known
     loop-holds
     shared-slice-read-wide
-    wide-requires
+    (λ c κs. search needs)
     array-read-unless-known
-    unless-known-requires
+    (λ c κs. search needs)
     slice-write-s
     array-write-known-2
     add-a

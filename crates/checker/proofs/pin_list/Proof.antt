@@ -6,18 +6,6 @@ use Rattle.checker.proofs.Lists.{pin-list}
 use Rattle.checker.proofs.pin_list.Statement.{statement}
 use Rattle.checker.proofs.pin_list.Tie as tie
 
-put-requires : tie.Need-put-requires
-put-requires c κs = search needs
-
-put-requires-2 : tie.Need-put-requires-2
-put-requires-2 c κs = search needs
-
-put-requires-3 : tie.Need-put-requires-3
-put-requires-3 c κs = search needs
-
-put-requires-4 : tie.Need-put-requires-4
-put-requires-4 c κs = search needs
-
 returns : tie.Need-returns
 returns c =
     let args = c .before .before .before .before .before .before .before .before .args in
@@ -29,4 +17,4 @@ returns c =
 
 pub pin-list-spec : {M : Type 1} → statement M
 pin-list-spec =
-    tie.close (tie.spec put-requires put-requires-2 put-requires-3 put-requires-4 returns)
+    tie.close (tie.spec (λ c κs. search needs) (λ c κs. search needs) (λ c κs. search needs) (λ c κs. search needs) returns)

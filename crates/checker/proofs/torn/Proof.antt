@@ -6,9 +6,6 @@ use Rattle.sweep.proofs.Settling.{settled-after}
 use Rattle.checker.proofs.torn.Statement.{statement}
 use Rattle.checker.proofs.torn.Tie as tie
 
-clear-requires : tie.Need-clear-requires
-clear-requires c κs = search needs
-
 spread-requires : tie.Need-spread-requires
 spread-requires c κs =
     let pre = c .before .before .before .before .before .before .before .before .before .before .pre in
@@ -63,7 +60,7 @@ pub torn-spec : {M : Type 1} → statement M
 torn-spec =
     tie.close
     (tie.spec
-    clear-requires
+    (λ c κs. search needs)
     spread-requires
     settle-requires
     lowest-of-requires

@@ -6,7 +6,11 @@ use Rattle.grid.proofs.area.Statement.{statement}
 use Rattle.grid.proofs.area.Tie as tie
 
 mul-result : tie.Need-mul-result
-mul-result c = omega (arith, area-le (c .before .before .args .n .0) (c .before .before .args .w .0) (c .before .before .pre .0) (c .before .before .pre .1))
+mul-result c = omega (
+  arith,
+  area-le (c .before .before .args .n .0) (c .before .before .args .w .0) (c .before .before .pre .0)
+      (c .before .before .pre .1),
+)
 
 returns : tie.Need-returns
 returns c = search needs

@@ -12,7 +12,12 @@ area-requires : tie.Need-area-requires
 area-requires c κs = search needs
 
 mul-result : tie.Need-mul-result
-mul-result c = let each : c .before .area .result ≤ 8100 = omega (arith, c .before .area .ensures, area-le (c .before .before .args .n .0) (c .before .before .args .w .0) (c .before .before .pre .0) (c .before .before .pre .1)) in
+mul-result c = let each : c .before .area .result ≤ 8100 = omega (
+  arith,
+  c .before .area .ensures,
+  area-le (c .before .before .args .n .0) (c .before .before .args .w .0) (c .before .before .pre .0)
+      (c .before .before .pre .1),
+) in
     omega (arith, mul-le-mul {n₂ = 8100} {m₂ = 255} each (c .before .before .pre .2))
 
 returns : tie.Need-returns

@@ -21,15 +21,6 @@ abbrev μ-loop : tie.MeasureT-loop
 loop-holds : tie.Need-loop-holds Inv-loop μ-loop
 loop-holds c = (omega arith, sym (sum-none _))
 
-add-k : tie.Need-add-k Inv-loop μ-loop
-add-k c = search needs
-
-element-copy-out-one-if : tie.Need-element-copy-out-one-if Inv-loop μ-loop
-element-copy-out-one-if c = search needs
-
-one-if-requires : tie.Need-one-if-requires Inv-loop μ-loop
-one-if-requires c κs = search needs
-
 add-count : tie.Need-add-count Inv-loop μ-loop
 add-count c =
     let c3 = c .before .before .before in
@@ -37,17 +28,11 @@ add-count c =
     let k = c3 .loop .k in
     omega (arith, c3 .loop .inv .1, count-le (λ m. getD left m false) (k + 1), sum-more (λ m. bit (getD left m false)) k, c .one-if .ensures)
 
-loop-less : tie.Need-loop-less Inv-loop μ-loop
-loop-less c = search needs
-
 loop-again : tie.Need-loop-again Inv-loop μ-loop
 loop-again c =
     let c3 = c .before .before .before in
     let more = sum-more (λ m. bit (getD (now (c3 .before .args .left)) m false)) (c3 .loop .k) in
     (omega arith, omega (arith, c3 .loop .inv .1, more, c .one-if .ensures))
-
-wide-requires : tie.Need-wide-requires Inv-loop μ-loop
-wide-requires c κs = search needs
 
 returns : tie.Need-returns Inv-loop μ-loop
 returns c =
@@ -57,16 +42,5 @@ returns c =
 
 pub count-left-spec : {M : Type 1} → statement M
 count-left-spec =
-    tie.close
-    (tie.spec
-    Inv-loop
-    μ-loop
-    loop-holds
-    add-k
-    element-copy-out-one-if
-    one-if-requires
-    add-count
-    loop-less
-    loop-again
-    wide-requires
-    returns)
+    tie.close (tie.spec Inv-loop μ-loop loop-holds (λ c. search needs) (λ c. search needs) (λ c κs. search needs) add-count
+    (λ c. search needs) loop-again (λ c κs. search needs) returns)

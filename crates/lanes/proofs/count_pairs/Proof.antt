@@ -19,15 +19,6 @@ abbrev μ-loop : tie.MeasureT-loop
 loop-holds : tie.Need-loop-holds Inv-loop μ-loop
 loop-holds c = (omega arith, refl, c .before .pre .1, halved-none (c .before .args .side .now) _ (c .before .pre .2))
 
-add-loop : tie.Need-add-loop Inv-loop μ-loop
-add-loop c = search needs
-
-shared-slice-read-wide : tie.Need-shared-slice-read-wide Inv-loop μ-loop
-shared-slice-read-wide c = search needs
-
-wide-requires : tie.Need-wide-requires Inv-loop μ-loop
-wide-requires c κs = search needs
-
 first : (c : tie.After-wide Inv-loop μ-loop) → c .wide .result ≤ 180
 first c =
     let c3 = c .before .before .before in
@@ -54,31 +45,21 @@ add-even c =
 array-write-even : tie.Need-array-write-even Inv-loop μ-loop
 array-write-even c = omega (arith, first c)
 
-add-wide : tie.Need-add-wide Inv-loop μ-loop
-add-wide c = search needs
-
-shared-slice-read-wide-2 : tie.Need-shared-slice-read-wide-2 Inv-loop μ-loop
-shared-slice-read-wide-2 c = search needs
-
-wide-requires-2 : tie.Need-wide-requires-2 Inv-loop μ-loop
-wide-requires-2 c κs = search needs
-
 element-copy-out-odd : tie.Need-element-copy-out-odd Inv-loop μ-loop
 element-copy-out-odd c = omega (arith, second c)
 
 add-odd : tie.Need-add-odd Inv-loop μ-loop
 add-odd c =
     let c6 = c .before .before .before .before .before .before in
-    omega (arith, c6 .before .before .pre .0 .short, halved-le _ (c6 .loop .i) _ _ (c .before .wide2 .result) (omega (arith, second (c .before))) (halved-swap (c6 .loop .inv .3)))
+    omega (
+      arith,
+      c6 .before .before .pre .0 .short,
+      halved-le _ (c6 .loop .i) _ _ (c .before .wide2 .result) (omega (arith, second (c .before)))
+          (halved-swap (c6 .loop .inv .3)),
+    )
 
 element-write-odd : tie.Need-element-write-odd Inv-loop μ-loop
 element-write-odd c = omega (arith, second (c .before))
-
-add-i : tie.Need-add-i Inv-loop μ-loop
-add-i c = search needs
-
-loop-less : tie.Need-loop-less Inv-loop μ-loop
-loop-less c = search needs
 
 loop-again : tie.Need-loop-again Inv-loop μ-loop
 loop-again c =
@@ -90,15 +71,10 @@ loop-again c =
       omega arith,
       simp length-set (l .inv .1),
       simp length-set (l .inv .2),
-      rw two (halved-swap (halved-more side (l .odd) _ (l .i + 1) (c .before .wide2 .result) (c .before .wide2 .ensures) (omega (arith, second (c .before))) (l .inv .2)
+      rw two (halved-swap (halved-more side (l .odd) _ (l .i + 1) (c .before .wide2 .result) (c .before .wide2 .ensures)
+          (omega (arith, second (c .before))) (l .inv .2)
           (halved-swap one))),
     )
-
-shared-slice-read-wide-3 : tie.Need-shared-slice-read-wide-3 Inv-loop μ-loop
-shared-slice-read-wide-3 c = search needs
-
-wide-requires-3 : tie.Need-wide-requires-3 Inv-loop μ-loop
-wide-requires-3 c κs = search needs
 
 array-read-even-2 : tie.Need-array-read-even-2 Inv-loop μ-loop
 array-read-even-2 c = omega (arith, last c)
@@ -127,30 +103,7 @@ returns-2 c =
 
 pub count-pairs-spec : {M : Type 1} → statement M
 count-pairs-spec =
-    tie.close
-    (tie.spec
-    Inv-loop
-    μ-loop
-    loop-holds
-    add-loop
-    shared-slice-read-wide
-    wide-requires
-    array-read-even
-    add-even
-    array-write-even
-    add-wide
-    shared-slice-read-wide-2
-    wide-requires-2
-    element-copy-out-odd
-    add-odd
-    element-write-odd
-    add-i
-    loop-less
-    loop-again
-    shared-slice-read-wide-3
-    wide-requires-3
-    array-read-even-2
-    add-even-2
-    array-write-even-2
-    returns
-    returns-2)
+    tie.close (tie.spec Inv-loop μ-loop loop-holds (λ c. search needs) (λ c. search needs) (λ c κs. search needs) array-read-even
+    add-even array-write-even (λ c. search needs) (λ c. search needs) (λ c κs. search needs) element-copy-out-odd add-odd
+    element-write-odd (λ c. search needs) (λ c. search needs) loop-again (λ c. search needs) (λ c κs. search needs) array-read-even-2
+    add-even-2 array-write-even-2 returns returns-2)

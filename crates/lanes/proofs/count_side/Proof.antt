@@ -23,27 +23,18 @@ count-pairs-requires c κs = (c .before .before .pre, refl, λ m l. getD-replica
 loop-holds : tie.Need-loop-holds Inv-loop μ-loop
 loop-holds c = (omega arith, refl, λ m l. absurd (omega arith))
 
-array-read-counts : tie.Need-array-read-counts Inv-loop μ-loop
-array-read-counts c = search needs
-
-array-read-counts-2 : tie.Need-array-read-counts-2 Inv-loop μ-loop
-array-read-counts-2 c = search needs
-
 add-counts : tie.Need-add-counts Inv-loop μ-loop
 add-counts c =
     let c2 = c .before .before in
     let start = c2 .before .before .before in
     let k = c .before .loop .k in
-    omega (arith, start .pre .short, c2 .count-pairs .ensures .is k (omega arith), count-le (λ a. eqb (entry (start .args .side .now) a) k) (length (start .args .side .now)))
-
-array-write-counts : tie.Need-array-write-counts Inv-loop μ-loop
-array-write-counts c = search needs
-
-add-k : tie.Need-add-k Inv-loop μ-loop
-add-k c = search needs
-
-loop-less : tie.Need-loop-less Inv-loop μ-loop
-loop-less c = search needs
+    omega (
+      arith,
+      start .pre .short,
+      c2 .count-pairs .ensures .is k (omega arith),
+      count-le (λ a. eqb (entry (start .args .side .now) a) k)
+          (length (start .args .side .now)),
+    )
 
 loop-again : tie.Need-loop-again Inv-loop μ-loop
 loop-again c =
@@ -56,17 +47,5 @@ returns c = record { is = λ m l. c .before .loop .inv .2 m (omega arith) ∙ c 
 
 pub count-side-spec : {M : Type 1} → statement M
 count-side-spec =
-    tie.close
-    (tie.spec
-    Inv-loop
-    μ-loop
-    count-pairs-requires
-    loop-holds
-    array-read-counts
-    array-read-counts-2
-    add-counts
-    array-write-counts
-    add-k
-    loop-less
-    loop-again
-    returns)
+    tie.close (tie.spec Inv-loop μ-loop count-pairs-requires loop-holds (λ c. search needs) (λ c. search needs) add-counts
+    (λ c. search needs) (λ c. search needs) (λ c. search needs) loop-again returns)

@@ -17,25 +17,10 @@ abbrev μ-loop : tie.MeasureT-loop
 loop-holds : tie.Need-loop-holds Inv-loop μ-loop
 loop-holds c = (omega arith, spread-none _ _ _ (c .good .0 .1 .0 .1))
 
-element-copy-out-wide : tie.Need-element-copy-out-wide Inv-loop μ-loop
-element-copy-out-wide c = search needs
-
-wide-requires : tie.Need-wide-requires Inv-loop μ-loop
-wide-requires c κs = search needs
-
-element-copy-out-lanes : tie.Need-element-copy-out-lanes Inv-loop μ-loop
-element-copy-out-lanes c = search needs
-
 array-write-lanes : tie.Need-array-write-lanes Inv-loop μ-loop
 array-write-lanes c =
     let c4 = c .before .before .before .before in
     omega (arith, c4 .loop .inv .1 .long, c .before .wide .ensures, c4 .before .pre .inside (c4 .loop .p) (omega arith))
-
-add-p : tie.Need-add-p Inv-loop μ-loop
-add-p c = search needs
-
-loop-less : tie.Need-loop-less Inv-loop μ-loop
-loop-less c = search needs
 
 loop-again : tie.Need-loop-again Inv-loop μ-loop
 loop-again c =
@@ -51,16 +36,5 @@ returns c =
 
 pub fill-spare-spec : {M : Type 1} → statement M
 fill-spare-spec =
-    tie.close
-    (tie.spec
-    Inv-loop
-    μ-loop
-    loop-holds
-    element-copy-out-wide
-    wide-requires
-    element-copy-out-lanes
-    array-write-lanes
-    add-p
-    loop-less
-    loop-again
-    returns)
+    tie.close (tie.spec Inv-loop μ-loop loop-holds (λ c. search needs) (λ c κs. search needs) (λ c. search needs) array-write-lanes
+    (λ c. search needs) (λ c. search needs) loop-again returns)

@@ -4,18 +4,9 @@ use Rattle.lanes.proofs.is_pair.Statement.{statement}
 use Rattle.lanes.proofs.is_pair.Tie as tie
 use Rattle.switchbox_law.specs.Rules.{pair}
 
-both-requires : tie.Need-both-requires
-both-requires c κs = search needs
-
-both-requires-2 : tie.Need-both-requires-2
-both-requires-2 c κs = search needs
-
-both-requires-3 : tie.Need-both-requires-3
-both-requires-3 c κs = search needs
-
 returns : tie.Need-returns
 unfolding pair
 returns c = cc
 
 pub is-pair-spec : {M : Type 1} → statement M
-is-pair-spec = tie.close (tie.spec both-requires both-requires-2 both-requires-3 returns)
+is-pair-spec = tie.close (tie.spec (λ c κs. search needs) (λ c κs. search needs) (λ c κs. search needs) returns)

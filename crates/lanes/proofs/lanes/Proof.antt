@@ -14,12 +14,6 @@ take-own-requires c κs =
     let start = c .before .before .before .before in
     (start .pre .most, start .pre .side, c .before .before .who-needs .ensures 0 (omega arith), omega (arith, c .before .before .who-needs .ok), refl)
 
-list-left-requires : tie.Need-list-left-requires
-list-left-requires c κs = search needs
-
-count-left-requires : tie.Need-count-left-requires
-count-left-requires c κs = search needs
-
 fill-spare-requires : tie.Need-fill-spare-requires
 fill-spare-requires c κs =
     let c6 = c .before .before .before .before .before .before in
@@ -38,11 +32,4 @@ returns c =
 
 pub lanes-spec : {M : Type 1} → statement M
 lanes-spec =
-    tie.close
-    (tie.spec
-    who-needs-requires
-    take-own-requires
-    list-left-requires
-    count-left-requires
-    fill-spare-requires
-    returns)
+    tie.close (tie.spec who-needs-requires take-own-requires (λ c κs. search needs) (λ c κs. search needs) fill-spare-requires returns)

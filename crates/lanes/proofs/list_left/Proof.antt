@@ -23,33 +23,15 @@ abbrev μ-loop : tie.MeasureT-loop
 loop-holds : tie.Need-loop-holds Inv-loop μ-loop
 loop-holds c = (omega arith, refl, sym (sum-none _), listed-none _ _)
 
-add-k : tie.Need-add-k Inv-loop μ-loop
-add-k c = search needs
-
-cast-list : tie.Need-cast-list Inv-loop μ-loop
-cast-list c = search needs
-
 array-write-list : tie.Need-array-write-list Inv-loop μ-loop
 array-write-list c =
     let l = c .before .loop in
     omega (arith, l .inv .1, l .inv .2, count-le (λ m. getD (now (c .before .before .args .left)) m false) (l .k))
 
-element-copy-out-one-if : tie.Need-element-copy-out-one-if Inv-loop μ-loop
-element-copy-out-one-if c = search needs
-
-one-if-requires : tie.Need-one-if-requires Inv-loop μ-loop
-one-if-requires c κs = search needs
-
-wide-requires : tie.Need-wide-requires Inv-loop μ-loop
-wide-requires c κs = search needs
-
 add-count : tie.Need-add-count Inv-loop μ-loop
 add-count c =
     let c4 = c .before .before .before .before in
     omega (arith, c4 .loop .inv .2, count-le (λ m. getD (now (c4 .before .args .left)) m false) (c4 .loop .k))
-
-loop-less : tie.Need-loop-less Inv-loop μ-loop
-loop-less c = search needs
 
 loop-again : tie.Need-loop-again Inv-loop μ-loop
 loop-again c =
@@ -67,18 +49,5 @@ returns c =
 
 pub list-left-spec : {M : Type 1} → statement M
 list-left-spec =
-    tie.close
-    (tie.spec
-    Inv-loop
-    μ-loop
-    loop-holds
-    add-k
-    cast-list
-    array-write-list
-    element-copy-out-one-if
-    one-if-requires
-    wide-requires
-    add-count
-    loop-less
-    loop-again
-    returns)
+    tie.close (tie.spec Inv-loop μ-loop loop-holds (λ c. search needs) (λ c. search needs) array-write-list (λ c. search needs)
+    (λ c κs. search needs) (λ c κs. search needs) add-count (λ c. search needs) loop-again returns)

@@ -8,15 +8,6 @@ use lib.ListN.{length, List·getD-eq-default}
 use Rattle.lanes.proofs.net_at.Statement.{statement}
 use Rattle.lanes.proofs.net_at.Tie as tie
 
-shared-slice-read-wide : tie.Need-shared-slice-read-wide
-shared-slice-read-wide c = search needs
-
-wide-requires : tie.Need-wide-requires
-wide-requires c κs = search needs
-
-returns : tie.Need-returns
-returns c = search needs
-
 returns-2 : tie.Need-returns-2
 returns-2 c =
     let args = c .before .before .args in
@@ -24,4 +15,4 @@ returns-2 c =
     sym (List·getD-eq-default (now (args .side)) 0 l)
 
 pub net-at-spec : {M : Type 1} → statement M
-net-at-spec = tie.close (tie.spec shared-slice-read-wide wide-requires returns returns-2)
+net-at-spec = tie.close (tie.spec (λ c. search needs) (λ c κs. search needs) (λ c. search needs) returns-2)

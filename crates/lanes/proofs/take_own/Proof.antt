@@ -22,9 +22,6 @@ abbrev μ-loop : tie.MeasureT-loop
 loop-holds : tie.Need-loop-holds Inv-loop μ-loop
 loop-holds c = (omega arith, c .before .pre .3, c .before .pre .4, took-none _ _ _)
 
-net-at-requires : tie.Need-net-at-requires Inv-loop μ-loop
-net-at-requires c κs = search needs
-
 small : (c : tie.After-net-at Inv-loop μ-loop) → c .net-at .result ≤ 180
 small c = omega (arith, c .net-at .ensures, small-net _ (c .before .before .loop .i) (c .before .before .before .before .pre .1))
 
@@ -37,29 +34,18 @@ element-write-left c = omega (arith, small (c .before))
 if-taken-requires : tie.Need-if-taken-requires Inv-loop μ-loop
 if-taken-requires c κs = omega (arith, small (c .before))
 
-array-write-lanes : tie.Need-array-write-lanes Inv-loop μ-loop
-array-write-lanes c = search needs
-
-cast-spare : tie.Need-cast-spare Inv-loop μ-loop
-cast-spare c = search needs
-
-element-write-spare : tie.Need-element-write-spare Inv-loop μ-loop
-element-write-spare c = search needs
-
-one-unless-requires : tie.Need-one-unless-requires Inv-loop μ-loop
-one-unless-requires c κs = search needs
-
 add-count : tie.Need-add-count Inv-loop μ-loop
 add-count c =
     let c3 = c .before .before .before in
     let l = c3 .before .before .loop in
-    omega (arith, c3 .before .before .before .before .pre .0, l .inv .3 .few, c .one-unless .ensures, bit-le (not (getD (l .left) (c3 .net-at .result) false)))
-
-add-i : tie.Need-add-i Inv-loop μ-loop
-add-i c = search needs
-
-loop-less : tie.Need-loop-less Inv-loop μ-loop
-loop-less c = search needs
+    omega (
+      arith,
+      c3 .before .before .before .before .pre .0,
+      l .inv .3 .few,
+      c .one-unless .ensures,
+      bit-le
+          (not (getD (l .left) (c3 .net-at .result) false)),
+    )
 
 loop-again : tie.Need-loop-again Inv-loop μ-loop
 loop-again c =
@@ -84,21 +70,6 @@ returns c =
 
 pub take-own-spec : {M : Type 1} → statement M
 take-own-spec =
-    tie.close
-    (tie.spec
-    Inv-loop
-    μ-loop
-    loop-holds
-    net-at-requires
-    element-copy-out-taken
-    element-write-left
-    if-taken-requires
-    array-write-lanes
-    cast-spare
-    element-write-spare
-    one-unless-requires
-    add-count
-    add-i
-    loop-less
-    loop-again
-    returns)
+    tie.close (tie.spec Inv-loop μ-loop loop-holds (λ c κs. search needs) element-copy-out-taken element-write-left if-taken-requires
+    (λ c. search needs) (λ c. search needs) (λ c. search needs) (λ c κs. search needs) add-count (λ c. search needs) (λ c. search needs)
+    loop-again returns)

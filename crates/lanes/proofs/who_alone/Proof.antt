@@ -20,53 +20,23 @@ abbrev μ-loop : tie.MeasureT-loop
 loop-holds : tie.Need-loop-holds Inv-loop μ-loop
 loop-holds c = (omega arith, refl, λ m h. absurd (omega arith))
 
-element-copy-out-gets-track : tie.Need-element-copy-out-gets-track Inv-loop μ-loop
-element-copy-out-gets-track c = search needs
-
-element-copy-out-gets-track-2 : tie.Need-element-copy-out-gets-track-2 Inv-loop μ-loop
-element-copy-out-gets-track-2 c = search needs
-
-element-copy-out-gets-track-3 : tie.Need-element-copy-out-gets-track-3 Inv-loop μ-loop
-element-copy-out-gets-track-3 c = search needs
-
-element-copy-out-gets-track-4 : tie.Need-element-copy-out-gets-track-4 Inv-loop μ-loop
-element-copy-out-gets-track-4 c = search needs
-
 gets-track-requires : tie.Need-gets-track-requires Inv-loop μ-loop
 gets-track-requires c κs =
     let k = c .before .before .before .before .before .loop .k in c .before .before .before .before .before .before .pre k (omega arith)
 
-array-write-out : tie.Need-array-write-out Inv-loop μ-loop
-array-write-out c = search needs
-
-add-k : tie.Need-add-k Inv-loop μ-loop
-add-k c = search needs
-
-loop-less : tie.Need-loop-less Inv-loop μ-loop
-loop-less c = search needs
-
 loop-again : tie.Need-loop-again Inv-loop μ-loop
 loop-again c =
-    let l = c .before .before .before .before .before .before .loop in
-    (omega arith, simp length-set (l .inv .1), told-more _ (l .out) (l .k) (c .gets-track .result) (l .inv .1) (omega arith) (c .gets-track .ensures) (l .inv .2))
+    let l = c .before .before .before .before .before .before .loop in (
+      omega arith,
+      simp length-set (l .inv .1),
+      told-more _ (l .out) (l .k) (c .gets-track .result) (l .inv .1) (omega arith) (c .gets-track .ensures)
+          (l .inv .2),
+    )
 
 returns : tie.Need-returns Inv-loop μ-loop
 returns c = λ m h. c .before .loop .inv .2 m (omega arith)
 
 pub who-alone-spec : {M : Type 1} → statement M
 who-alone-spec =
-    tie.close
-    (tie.spec
-    Inv-loop
-    μ-loop
-    loop-holds
-    element-copy-out-gets-track
-    element-copy-out-gets-track-2
-    element-copy-out-gets-track-3
-    element-copy-out-gets-track-4
-    gets-track-requires
-    array-write-out
-    add-k
-    loop-less
-    loop-again
-    returns)
+    tie.close (tie.spec Inv-loop μ-loop loop-holds (λ c. search needs) (λ c. search needs) (λ c. search needs) (λ c. search needs)
+    gets-track-requires (λ c. search needs) (λ c. search needs) (λ c. search needs) loop-again returns)

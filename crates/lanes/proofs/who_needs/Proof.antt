@@ -8,18 +8,6 @@ use Rattle.lanes.proofs.who_needs.Tie as tie
 who-alone-requires : tie.Need-who-alone-requires
 who-alone-requires c κs = c .pre
 
-who-pairs-requires : tie.Need-who-pairs-requires
-who-pairs-requires c κs = search needs
-
-turns-requires : tie.Need-turns-requires
-turns-requires c κs = search needs
-
-alone-or-turn-requires : tie.Need-alone-or-turn-requires
-alone-or-turn-requires c κs = search needs
-
-array-write-out : tie.Need-array-write-out
-array-write-out c = search needs
-
 returns : tie.Need-returns
 returns c =
     let c4 = c .before .before .before .before in
@@ -30,11 +18,5 @@ returns c =
 
 pub who-needs-spec : {M : Type 1} → statement M
 who-needs-spec =
-    tie.close
-    (tie.spec
-    who-alone-requires
-    who-pairs-requires
-    turns-requires
-    alone-or-turn-requires
-    array-write-out
+    tie.close (tie.spec who-alone-requires (λ c κs. search needs) (λ c κs. search needs) (λ c κs. search needs) (λ c. search needs)
     returns)

@@ -19,30 +19,6 @@ abbrev μ-loop : tie.MeasureT-loop
 loop-holds : tie.Need-loop-holds Inv-loop μ-loop
 loop-holds c = (omega arith, refl, λ m h. absurd (omega arith))
 
-element-copy-out-is-pair : tie.Need-element-copy-out-is-pair Inv-loop μ-loop
-element-copy-out-is-pair c = search needs
-
-element-copy-out-is-pair-2 : tie.Need-element-copy-out-is-pair-2 Inv-loop μ-loop
-element-copy-out-is-pair-2 c = search needs
-
-element-copy-out-is-pair-3 : tie.Need-element-copy-out-is-pair-3 Inv-loop μ-loop
-element-copy-out-is-pair-3 c = search needs
-
-element-copy-out-is-pair-4 : tie.Need-element-copy-out-is-pair-4 Inv-loop μ-loop
-element-copy-out-is-pair-4 c = search needs
-
-is-pair-requires : tie.Need-is-pair-requires Inv-loop μ-loop
-is-pair-requires c κs = search needs
-
-array-write-out : tie.Need-array-write-out Inv-loop μ-loop
-array-write-out c = search needs
-
-add-k : tie.Need-add-k Inv-loop μ-loop
-add-k c = search needs
-
-loop-less : tie.Need-loop-less Inv-loop μ-loop
-loop-less c = search needs
-
 loop-again : tie.Need-loop-again Inv-loop μ-loop
 loop-again c =
     let l = c .before .before .before .before .before .before .loop in
@@ -53,18 +29,5 @@ returns c = λ m h. c .before .loop .inv .2 m (omega arith)
 
 pub who-pairs-spec : {M : Type 1} → statement M
 who-pairs-spec =
-    tie.close
-    (tie.spec
-    Inv-loop
-    μ-loop
-    loop-holds
-    element-copy-out-is-pair
-    element-copy-out-is-pair-2
-    element-copy-out-is-pair-3
-    element-copy-out-is-pair-4
-    is-pair-requires
-    array-write-out
-    add-k
-    loop-less
-    loop-again
-    returns)
+    tie.close (tie.spec Inv-loop μ-loop loop-holds (λ c. search needs) (λ c. search needs) (λ c. search needs) (λ c. search needs)
+    (λ c κs. search needs) (λ c. search needs) (λ c. search needs) (λ c. search needs) loop-again returns)

@@ -6,20 +6,10 @@ use Rattle.grid.proofs.Sizes.{sized}
 use Rattle.lay_vectors.proofs.taken.Statement.{statement}
 use Rattle.lay_vectors.proofs.taken.Tie as tie
 
-is-grid-requires : tie.Need-is-grid-requires
-is-grid-requires c κs = search needs
-
-returns : tie.Need-returns
-returns c = search needs
-
 points-requires : tie.Need-points-requires
-points-requires c κs = let s = sized _ _ _ (sym (c .before .is-grid .ensures) ∙ not-false (c .before .is-grid .result) (c .if1 .left)) in (s .long .1, s .wide .1, s .high .1)
-
-returns-2 : tie.Need-returns-2
-returns-2 c = search needs
-
-returns-3 : tie.Need-returns-3
-returns-3 c = search needs
+points-requires c κs =
+    let s = sized _ _ _ (sym (c .before .is-grid .ensures) ∙ not-false (c .before .is-grid .result) (c .if1 .left)) in
+    (s .long .1, s .wide .1, s .high .1)
 
 pub taken-spec : {M : Type 1} → statement M
-taken-spec = tie.close (tie.spec is-grid-requires returns points-requires returns-2 returns-3)
+taken-spec = tie.close (tie.spec (λ c κs. search needs) (λ c. search needs) points-requires (λ c. search needs) (λ c. search needs))

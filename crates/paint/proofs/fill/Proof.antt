@@ -1,3 +1,4 @@
+-- Byte by byte, the first i are v.
 use Prim.Native.Nat.{_≤_, _-_}
 use mathlib.Core.Path.{refl}
 use native.Mathlib.Omega.{arith}
@@ -5,8 +6,6 @@ use lib.ListN.{length}
 use Rattle.paint.proofs.Laws.{Upto, upto-start, upto-next, upto-all}
 use Rattle.paint.proofs.fill.Statement.{statement}
 use Rattle.paint.proofs.fill.Tie as tie
-use Rattle.paint.proofs.fill.Reads as reads
-use Rattle.paint.proofs.fill.Lts as lts
 
 abbrev Inv-loop : tie.InvT-loop
 Inv-loop part₀ v i₀ i-end part i = (i ≤ length part₀) × Upto part₀ part i (λ t. v)
@@ -14,44 +13,27 @@ Inv-loop part₀ v i₀ i-end part i = (i ≤ length part₀) × Upto part₀ pa
 abbrev μ-loop : tie.MeasureT-loop
 μ-loop part₀ v i₀ i-end part i = length part₀ - i
 
--- src/lib.rt:13:5
 loop-holds : tie.Need-loop-holds Inv-loop μ-loop
 loop-holds c = (omega arith, upto-start _ _)
 
--- src/lib.rt:14:9
 slice-write-part : tie.Need-slice-write-part Inv-loop μ-loop
 slice-write-part c = omega (arith, c .before .loop .inv .1 .long)
 
--- src/lib.rt:13:9
 add-i : tie.Need-add-i Inv-loop μ-loop
 add-i c = omega arith
 
--- src/lib.rt:13:5
 loop-less : tie.Need-loop-less Inv-loop μ-loop
 loop-less c = omega arith
 
--- src/lib.rt:13:5
 loop-again : tie.Need-loop-again Inv-loop μ-loop
 loop-again c = (omega arith, upto-next _ (omega arith) refl (c .before .loop .inv .1))
 
--- src/lib.rt:10:1
 same-length : tie.Need-same-length Inv-loop μ-loop
 same-length c = c .before .loop .inv .1 .long
 
--- src/lib.rt:10:1
 returns : tie.Need-returns Inv-loop μ-loop
 returns c = upto-all (omega arith) (c .before .loop .inv .1)
 
 pub fill-spec : {M : Type 1} → statement M
 fill-spec =
-    tie.close
-    (tie.spec
-    Inv-loop
-    μ-loop
-    loop-holds
-    slice-write-part
-    add-i
-    loop-less
-    loop-again
-    same-length
-    returns)
+    tie.close (tie.spec Inv-loop μ-loop loop-holds slice-write-part add-i loop-less loop-again same-length returns)

@@ -1,3 +1,4 @@
+-- Row by row as `Above` has it: of the 16 bytes written at a row the first n are the row. The last rows are `runs`.
 use Prim.Native.Nat.{_-_}
 use mathlib.Core.Path.{refl}
 use borrow.Author.Needs.{needs}
@@ -6,10 +7,6 @@ use lib.ListN.{length, getD}
 use Rattle.paint.proofs.Laws.{Above, above-none, above-within, above-left, above-step, rest-long, rest-values, rest-value, above-rest, striped-as}
 use Rattle.paint.proofs.narrow_runs.Statement.{statement}
 use Rattle.paint.proofs.narrow_runs.Tie as tie
-use Rattle.paint.proofs.narrow_runs.Reads as reads
-use Rattle.paint.proofs.narrow_runs.Lts as lts
-use Rattle.paint.proofs.fill.Reads as fill-reads
-use Rattle.paint.proofs.runs.Reads as runs-reads
 
 abbrev Inv-loop : tie.InvT-loop
 Inv-loop part₀ values n len from₀ j₀ part from j = Above part₀ part n (length values) j from (λ i z. getD values z 0)
@@ -17,92 +14,66 @@ Inv-loop part₀ values n len from₀ j₀ part from j = Above part₀ part n (l
 abbrev μ-loop : tie.MeasureT-loop
 μ-loop part₀ values n len from₀ j₀ part from j = length values - j
 
--- src/lib.rt:113:5
 loop-holds : tie.Need-loop-holds Inv-loop μ-loop
 loop-holds c = above-none (c .before .before .pre .1)
 
--- src/lib.rt:113:11
 sub-loop : tie.Need-sub-loop Inv-loop μ-loop
 sub-loop c = omega (arith, above-within (c .loop .inv))
 
--- src/lib.rt:114:30
 add-fill : tie.Need-add-fill Inv-loop μ-loop
 add-fill c = omega (arith, c .before .loop .inv .rows .long)
 
--- src/lib.rt:114:14
 sub-fill : tie.Need-sub-fill Inv-loop μ-loop
 sub-fill c = omega arith
 
--- src/lib.rt:114:14
 part-fill-start : tie.Need-part-fill-start Inv-loop μ-loop
 part-fill-start c = omega arith
 
--- src/lib.rt:114:14
 part-fill-end : tie.Need-part-fill-end Inv-loop μ-loop
 part-fill-end c = omega (arith, c .before .loop .inv .rows .long)
 
--- src/lib.rt:114:42
 shared-slice-read-fill : tie.Need-shared-slice-read-fill Inv-loop μ-loop
 shared-slice-read-fill c = above-left (omega arith) (c .before .before .before .loop .inv)
 
--- src/lib.rt:114:9
-fill-requires : tie.Need-fill-requires Inv-loop μ-loop
-fill-requires c κs = search needs
-
--- src/lib.rt:115:9
 add-from : tie.Need-add-from Inv-loop μ-loop
 add-from c = omega (arith, c .before .before .before .before .before .before .before .before .before .pre)
 
--- src/lib.rt:116:9
 add-j : tie.Need-add-j Inv-loop μ-loop
 add-j c = omega (arith, above-left (omega arith) (c .before .before .before .before .before .before .loop .inv))
 
--- src/lib.rt:113:5
 loop-less : tie.Need-loop-less Inv-loop μ-loop
 loop-less c = omega (arith, above-left (omega arith) (c .before .before .before .before .before .before .loop .inv))
 
--- src/lib.rt:113:5
 loop-again : tie.Need-loop-again Inv-loop μ-loop
 loop-again c =
     let c6 = c .before .before .before .before .before .before in
     let pre = c6 .before .before .before .pre in
-    above-step _ _ (omega (arith, pre)) (omega arith) (above-left (omega arith) (c6 .loop .inv)) (λ i h. refl) (c6 .loop .inv) (c .before .before .fill .ensures)
+    above-step _ _ (omega (arith, pre)) (omega arith) (above-left (omega arith) (c6 .loop .inv)) (λ i h. refl) (c6 .loop .inv)
+    (c .before .before .fill .ensures)
 
--- src/lib.rt:118:10
 sub-runs : tie.Need-sub-runs Inv-loop μ-loop
 sub-runs c = omega (arith, above-within (c .before .loop .inv))
 
--- src/lib.rt:118:10
 part-runs-start : tie.Need-part-runs-start Inv-loop μ-loop
 part-runs-start c = omega (arith, above-within (c .before .loop .inv))
 
--- src/lib.rt:118:10
 part-runs-end : tie.Need-part-runs-end Inv-loop μ-loop
 part-runs-end c = omega (arith, above-within (c .before .loop .inv), c .before .loop .inv .rows .long)
 
--- src/lib.rt:118:32
 sub-runs-2 : tie.Need-sub-runs-2 Inv-loop μ-loop
 sub-runs-2 c = c .before .before .loop .inv .within
 
--- src/lib.rt:118:32
 part-runs-start-2 : tie.Need-part-runs-start-2 Inv-loop μ-loop
 part-runs-start-2 c = omega (arith, c .before .before .loop .inv .within)
 
--- src/lib.rt:118:32
 part-runs-end-2 : tie.Need-part-runs-end-2 Inv-loop μ-loop
 part-runs-end-2 c = omega (arith, c .before .before .loop .inv .within)
 
--- src/lib.rt:118:5
 runs-requires : tie.Need-runs-requires Inv-loop μ-loop
 runs-requires c κs =
     let a = c .before .before .before .loop .inv in
     rest-long _ (rest-values _ (c .before .before .before .before .before .before .args .values .now) (a .within)) a
 
--- src/lib.rt:106:1
-same-length : tie.Need-same-length Inv-loop μ-loop
-same-length c = search needs
-
--- src/lib.rt:106:1
 returns : tie.Need-returns Inv-loop μ-loop
 returns c =
     let a = c .before .before .before .before .before .before .loop .inv in
@@ -111,28 +82,6 @@ returns c =
 
 pub narrow-runs-spec : {M : Type 1} → statement M
 narrow-runs-spec =
-    tie.close
-    (tie.spec
-    Inv-loop
-    μ-loop
-    loop-holds
-    sub-loop
-    add-fill
-    sub-fill
-    part-fill-start
-    part-fill-end
-    shared-slice-read-fill
-    fill-requires
-    add-from
-    add-j
-    loop-less
-    loop-again
-    sub-runs
-    part-runs-start
-    part-runs-end
-    sub-runs-2
-    part-runs-start-2
-    part-runs-end-2
-    runs-requires
-    same-length
-    returns)
+    tie.close (tie.spec Inv-loop μ-loop loop-holds sub-loop add-fill sub-fill part-fill-start part-fill-end shared-slice-read-fill
+    (λ c κs. search needs) add-from add-j loop-less loop-again sub-runs part-runs-start part-runs-end sub-runs-2 part-runs-start-2
+    part-runs-end-2 runs-requires (λ c. search needs) returns)

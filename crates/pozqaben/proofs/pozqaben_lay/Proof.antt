@@ -15,22 +15,14 @@ returns-2 c =
     let c5 = c .before .before .before .before .before in
     let c8 = c5 .before .before .before in
     let l = c8 .lay .ensures in (
-      answered (c5 .lay-entries .ensures ∙ ap layEntries (l .0)) (c8 .before .before .if1 .left) (put .ensures),
+      answered (c5 .lay-entries .ensures ∙ ap layEntries (l .answer)) (c8 .before .before .if1 .left) (put .ensures),
       (
         λ e. not-both (sym e),
-        λ _. rw (← l .0) (record { untouched = l .1 .0; laid = l .1 .1 .0; narrowest = l .1 .1 .1 .0; lowest = l .1 .1 .1 .1 }),
+        λ _. rw (← l .answer) l,
       ),
     )
 
 pub pozqaben-lay-spec : {M : Type 1} → statement M
 pozqaben-lay-spec =
-    tie.close
-    (tie.spec
-    returns
-    (λ c κs. search needs)
-    (λ c κs. search needs)
-    (λ c. search needs)
-    (λ c κs. search needs)
-    (λ c. search needs)
-    (λ c. search needs)
-    returns-2)
+    tie.close (tie.spec returns (λ c κs. search needs) (λ c κs. search needs) (λ c. search needs) (λ c κs. search needs)
+    (λ c. search needs) (λ c. search needs) returns-2)

@@ -16,11 +16,4 @@ returns-2 c =
 
 pub pozqaben-layer-view-spec : {M : Type 1} → statement M
 pozqaben-layer-view-spec =
-    tie.close
-    (tie.spec
-    returns
-    (λ c κs. search needs)
-    (λ c. search needs)
-    (λ c κs. search needs)
-    (λ c. search needs)
-    returns-2)
+    tie.close (tie.spec returns (λ c κs. search needs) (λ c. search needs) (λ c κs. search needs) (λ c. search needs) returns-2)

@@ -27,7 +27,11 @@ mul-answer-2 : tie.Need-mul-answer-2 Inv-loop μ-loop
 mul-answer-2 c = omega arith
 
 slice-write-answer : tie.Need-slice-write-answer Inv-loop μ-loop
-slice-write-answer c = omega (arith, ap length (c .before .before .loop .inv .1) ∙ front-length (c .before .before .before .args .answer .now) (c .before .before .before .args .entries .now) (omega arith) (c .before .before .loop .i) (omega arith))
+slice-write-answer c = omega (
+  arith,
+  ap length (c .before .before .loop .inv .1) ∙ front-length (c .before .before .before .args .answer .now)
+      (c .before .before .before .args .entries .now) (omega arith) (c .before .before .loop .i) (omega arith),
+)
 
 add-i : tie.Need-add-i Inv-loop μ-loop
 add-i c = omega arith
@@ -36,27 +40,23 @@ loop-less : tie.Need-loop-less Inv-loop μ-loop
 loop-less c = omega arith
 
 loop-again : tie.Need-loop-again Inv-loop μ-loop
-loop-again c = (omega arith, ap (λ (l : List ℕ). set l (c .before .before .loop .i) (getD (c .before .before .before .args .entries .now) (c .before .before .loop .i) 0)) (c .before .before .loop .inv .1) ∙ front-next (c .before .before .before .args .answer .now) (c .before .before .before .args .entries .now) (omega arith) (c .before .before .loop .i) (omega arith))
+loop-again c = (
+  omega arith,
+  ap (λ (l : List ℕ). set l (c .before .before .loop .i) (getD (c .before .before .before .args .entries .now)
+      (c .before .before .loop .i) 0)) (c .before .before .loop .inv .1) ∙ front-next (c .before .before .before .args .answer .now)
+      (c .before .before .before .args .entries .now) (omega arith) (c .before .before .loop .i) (omega arith),
+)
 
 same-length : tie.Need-same-length Inv-loop μ-loop
-same-length c = ap length (c .before .loop .inv .1) ∙ front-length (c .before .before .args .answer .now) (c .before .before .args .entries .now) (omega arith) (c .before .loop .i) (omega arith)
+same-length c = ap length (c .before .loop .inv .1) ∙ front-length (c .before .before .args .answer .now) (c .before .before .args .entries .now)
+    (omega arith) (c .before .loop .i) (omega arith)
 
 returns : tie.Need-returns Inv-loop μ-loop
-returns c = let all : c .before .loop .i ≡ length (c .before .before .args .entries .now) = omega arith in c .before .loop .inv .1 ∙ ap (front (c .before .before .args .answer .now) (c .before .before .args .entries .now)) all ∙ front-whole (c .before .before .args .answer .now) (c .before .before .args .entries .now) (omega arith)
+returns c = let all : c .before .loop .i ≡ length (c .before .before .args .entries .now) = omega arith in c .before .loop .inv .1 ∙ ap
+    (front (c .before .before .args .answer .now) (c .before .before .args .entries .now)) all ∙ front-whole (c .before .before .args .answer .now)
+    (c .before .before .args .entries .now) (omega arith)
 
 pub put-spec : {M : Type 1} → statement M
 put-spec =
-    tie.close
-    (tie.spec
-    Inv-loop
-    μ-loop
-    loop-holds
-    mul-answer
-    shared-slice-read-answer
-    mul-answer-2
-    slice-write-answer
-    add-i
-    loop-less
-    loop-again
-    same-length
-    returns)
+    tie.close (tie.spec Inv-loop μ-loop loop-holds mul-answer shared-slice-read-answer mul-answer-2 slice-write-answer add-i loop-less
+    loop-again same-length returns)

@@ -27,12 +27,5 @@ returns-2 c =
 
 pub view-entries-spec : {M : Type 1} → statement M
 view-entries-spec =
-    tie.close
-    (tie.spec
-    (λ c κs. search needs)
-    (λ c. search needs)
-    returns
-    index-of-requires
-    area-requires
-    (λ c. search needs)
+    tie.close (tie.spec (λ c κs. search needs) (λ c. search needs) returns index-of-requires area-requires (λ c. search needs)
     returns-2)

@@ -1,21 +1,20 @@
+-- `router::first_direction` meets its contract: a box that is turned has its first layer horizontal, and no other kind has.
+use mathlib.Core.Path.{sym, ap, _∙_}
+use mathlib.Core.Bool.{false}
+use lib.Dec.{ltb}
 use borrow.Author.Needs.{needs}
-use borrow.Author.Tests.{eq-eqb, ne-eqb}
+use Rattle.terms.proofs.Laws.{of-box, boxes-only}
 use Rattle.router.proofs.first_direction.Statement.{statement}
 use Rattle.router.proofs.first_direction.Tie as tie
-use Rattle.router.proofs.first_direction.Reads as reads
-use Rattle.router.proofs.first_direction.Lts as lts
 
--- src/lib.rt:55:9
 returns : tie.Need-returns
-returns c = simp (ne-eqb _ _ (c .if1 .taken))
+returns c =
+    let q = c .before .before .before .before .args .q in
+    c .is-turned .ensures ∙ ap (ltb (q .n .0)) (c .before .wide .ensures) ∙ sym
+    (of-box (q .kind) false false false (ltb (q .n .0) (q .byte2)) (c .before .before .if1 .taken))
 
--- src/lib.rt:57:13
-cast-w : tie.Need-cast-w
-cast-w c = search needs
-
--- src/lib.rt:51:1
 returns-2 : tie.Need-returns-2
-returns-2 c = simp (eq-eqb _ _ (c .before .before .if1 .left))
+returns-2 c = sym (boxes-only (c .before .before .args .q .kind) false _ (c .if1 .left))
 
 pub first-direction-spec : {M : Type 1} → statement M
-first-direction-spec = tie.close (tie.spec returns cast-w returns-2)
+first-direction-spec = tie.close (tie.spec (λ c κs. search needs) (λ c κs. search needs) returns returns-2)

@@ -1,80 +1,76 @@
-use borrow.Author.Needs.{needs}
-use mathlib.Core.Path.{refl, ap}
+-- `router::lay` meets its contract: at each way out the promise that proofs/Promise shows of it.
+use mathlib.Core.Path.{ap, _∙_}
 use native.Mathlib.Omega.{arith}
-use Rattle.survey.specs.declared.SurveyFigures.{SurveyFigures}
+use borrow.Author.Needs.{needs}
+use Rattle.terms.specs.declared.Refusal.{Refusal}
+use Rattle.figures.specs.declared.Figures.{Figures}
+use Rattle.ticket.proofs.Good.{reading-good}
+use Rattle.router.specs.Lay.{answered, refused, firstOf}
 use Rattle.router.proofs.Laws.{sizes}
-use Rattle.router.proofs.Promise.{turned-down, too-short, laid, accepted, size-is, not-refused}
+use Rattle.router.proofs.Promise.{turned-down, too-short, laid, size-is}
 use Rattle.router.proofs.lay.Statement.{statement}
 use Rattle.router.proofs.lay.Tie as tie
-use Rattle.router.proofs.lay.Reads as reads
-use Rattle.router.proofs.lay.Lts as lts
-use Rattle.grid.proofs.points.Reads as points-reads
-use Rattle.router.proofs.answer.Reads as answer-reads
-use Rattle.router.proofs.draw.Reads as draw-reads
-use Rattle.router.proofs.refuse.Reads as refuse-reads
-use Rattle.survey.proofs.figures.Reads as figures-reads
-use Rattle.ticket.proofs.parse.Reads as parse-reads
 
--- src/lib.rt:124:9
-parse-requires : tie.Need-parse-requires
-parse-requires c κs = search needs
-
--- src/lib.rt:126:9
-refuse-requires : tie.Need-refuse-requires
-refuse-requires c κs = search needs
-
--- src/lib.rt:126:9
 returns : tie.Need-returns
-returns c = let q = turned-down (c .before .before .before .before .before .before .args .ticket .now) (c .before .before .before .parse .result) (c .before .before .before .parse .ensures) (c .before .before .before .before .before .before .args .wiring .now) (c .refuse .result) (c .before .if1 .taken) (c .refuse .ensures) in
-    (q .0, (λ h. refl, (q .1, (q .2, q .3))))
+returns c =
+    let s = c .before .before .before .before .before .before .before in
+    turned-down (s .args .ticket .now) (c .before .before .before .before .parse .result) (c .before .before .before .before .parse .ensures)
+    (s .args .wiring .now) (c .refused .result) (c .before .if1 .taken) (c .refused .ensures)
 
--- src/lib.rt:128:9
-figures-requires : tie.Need-figures-requires
-figures-requires c κs = accepted (c .before .before .before .before .before .args .ticket .now) (c .before .before .parse .result) (c .before .before .parse .ensures) (c .if1 .left)
+figures-of-requires : tie.Need-figures-of-requires
+figures-of-requires c κs = reading-good _ (c .before .before .before .before .parse .ensures) (c .before .if1 .left)
 
--- src/lib.rt:132:9
 points-requires : tie.Need-points-requires
-points-requires c κs = let s = sizes (c .before .before .before .before .before .before .parse .result) (accepted (c .before .before .before .before .before .before .before .before .before .args .ticket .now) (c .before .before .before .before .before .before .parse .result) (c .before .before .before .before .before .before .parse .ensures) (c .before .before .before .before .if1 .left)) in
-    (s .long .1, rw (c .before .before .before .figures .ensures) (s .wide .1), rw (c .before .before .before .figures .ensures) (s .high .1))
+points-requires c κs =
+    let z = sizes (c .before .before .before .before .before .before .parse .result .problem)
+    (reading-good _ (c .before .before .before .before .before .before .parse .ensures) (c .before .before .before .if1 .left)) in
+    (z .long .1, rw (c .before .figures-of .ensures) (z .wide .1), rw (c .before .figures-of .ensures) (z .high .1))
 
--- src/lib.rt:134:9
-refuse-requires-2 : tie.Need-refuse-requires-2
-refuse-requires-2 c κs = search needs
-
--- src/lib.rt:134:9
 returns-2 : tie.Need-returns-2
-returns-2 c = let q = too-short (c .before .before .before .before .before .before .before .before .before .before .before .before .args .ticket .now) (c .before .before .before .before .before .before .before .before .before .parse .result) (c .before .before .before .before .before .before .before .before .before .parse .ensures) (c .before .before .before .before .before .before .before .before .before .before .before .before .args .wiring .now) (c .refuse2 .result) (c .before .before .points .result) (c .before .before .before .before .before .before .before .if1 .left) (size-is (c .before .before .before .before .before .before .before .before .before .parse .result) (c .before .before .before .before .before .before .figures .result) (c .before .before .points .result) (c .before .before .before .before .before .before .figures .ensures) (c .before .before .points .ensures)) (c .before .if2 .taken) (c .refuse2 .ensures) in
-    (q .0, (λ h. refl, (q .1, (q .2, q .3))))
+returns-2 c =
+    let s = c .before .before .before .before .before .before .before .before .before .before .before .before .before in
+    let t = c .before .before .before .before .before .before .before .before .before .before .parse .result in
+    too-short (s .args .ticket .now) t (c .before .before .before .before .before .before .before .before .before .before .parse .ensures)
+    (s .args .wiring .now) (c .refused2 .result) (c .before .before .before .points .result)
+    (c .before .before .before .before .before .before .before .if1 .left)
+    (size-is (t .problem) (c .before .before .before .before .before .figures-of .result) (c .before .before .before .points .result)
+    (c .before .before .before .before .before .figures-of .ensures) (c .before .before .before .points .ensures)) (c .before .before .if2 .taken)
+    (c .refused2 .ensures ∙ ap refused (c .before .refuse .ensures))
 
--- src/lib.rt:136:5
 draw-requires : tie.Need-draw-requires
-draw-requires c κs = (accepted (c .before .before .before .before .before .before .before .before .before .before .before .before .args .ticket .now) (c .before .before .before .before .before .before .before .before .before .parse .result) (c .before .before .before .before .before .before .before .before .before .parse .ensures) (c .before .before .before .before .before .before .before .if1 .left), ap (λ (f : SurveyFigures). f .w .0) (c .before .before .before .before .before .before .figures .ensures), omega (arith, size-is (c .before .before .before .before .before .before .before .before .before .parse .result) (c .before .before .before .before .before .before .figures .result) (c .before .before .points .result) (c .before .before .before .before .before .before .figures .ensures) (c .before .before .points .ensures)))
+draw-requires c κs =
+    let t = c .before .before .before .before .before .before .before .before .before .parse .result in (
+      reading-good _ (c .before .before .before .before .before .before .before .before .before .parse .ensures)
+          (c .before .before .before .before .before .before .if1 .left),
+      ap (λ (f : Figures). f .w .0) (c .before .before .before .before .figures-of .ensures),
+      omega (
+        arith,
+        size-is (t .problem) (c .before .before .before .before .figures-of .result) (c .before .before .points .result)
+            (c .before .before .before .before .figures-of .ensures) (c .before .before .points .ensures),
+      ),
+    )
 
--- src/lib.rt:137:5
-answer-requires : tie.Need-answer-requires
-answer-requires c κs = c .before .before .before .before .before .before .before .before .before .figures .ensures
-
--- src/lib.rt:113:1
-same-length : tie.Need-same-length
-same-length c = search needs
-
--- src/lib.rt:113:1
 returns-3 : tie.Need-returns-3
-returns-3 c = let q = laid (c .before .before .before .before .before .before .before .before .before .before .before .before .before .before .before .before .args .ticket .now) (c .before .before .before .before .before .before .before .before .before .before .before .before .before .parse .result) (c .before .before .before .before .before .before .before .before .before .before .before .before .before .parse .ensures) (c .before .before .before .before .before .before .before .before .before .before .before .before .before .before .before .before .args .wiring .now) (c .answer .result) _ (c .before .before .before .before .before .before .before .before .before .before .before .if1 .left) (omega (arith, size-is (c .before .before .before .before .before .before .before .before .before .before .before .before .before .parse .result) (c .before .before .before .before .before .before .before .before .before .before .figures .result) (c .before .before .before .before .before .before .points .result) (c .before .before .before .before .before .before .before .before .before .before .figures .ensures) (c .before .before .before .before .before .before .points .ensures))) (c .before .before .before .draw .ensures) (c .answer .ensures) in
-    (q .0, (λ ne. absurd (ne (not-refused (c .before .before .before .before .before .before .before .before .before .before .before .before .before .parse .result) (c .answer .ensures))), (q .1, (q .2, q .3))))
+returns-3 c =
+    let s = c .before .before .before .before .before .before .before .before .before .before .before .before .before .before .before .before .before in
+    let t = c .before .before .before .before .before .before .before .before .before .before .before .before .before .before .parse .result in
+    let q = t .problem in
+    laid (s .args .ticket .now) t
+    (c .before .before .before .before .before .before .before .before .before .before .before .before .before .before .parse .ensures)
+    (s .args .wiring .now) (c .answered .result) _
+    (c .before .before .before .before .before .before .before .before .before .before .before .if1 .left)
+    (omega (
+      arith,
+      size-is q (c .before .before .before .before .before .before .before .before .before .figures-of .result)
+          (c .before .before .before .before .before .before .before .points .result)
+          (c .before .before .before .before .before .before .before .before .before .figures-of .ensures)
+          (c .before .before .before .before .before .before .before .points .ensures),
+    )) (c .before .before .before .before .draw .ensures)
+    (c .answered .ensures ∙ ap (λ (r : Refusal). answered r q
+    (c .before .before .before .before .before .before .before .before .before .figures-of .result) (firstOf q)) (c .before .refuse2 .ensures)
+    ∙ ap (λ (f : Figures). answered _ q f (firstOf q)) (c .before .before .before .before .before .before .before .before .before .figures-of .ensures))
 
 pub lay-spec : {M : Type 1} → statement M
 lay-spec =
-    tie.close
-    (tie.spec
-    parse-requires
-    refuse-requires
-    returns
-    figures-requires
-    points-requires
-    refuse-requires-2
-    returns-2
-    draw-requires
-    answer-requires
-    same-length
-    returns-3)
+    tie.close (tie.spec (λ c κs. search needs) (λ c κs. search needs) returns figures-of-requires points-requires (λ c κs. search needs)
+    (λ c κs. search needs) returns-2 draw-requires (λ c κs. search needs) (λ c κs. search needs) (λ c. search needs) returns-3)

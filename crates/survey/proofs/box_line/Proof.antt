@@ -6,87 +6,70 @@ use Rattle.survey.proofs.Lines.{says-adds, adds-same}
 use Rattle.survey.proofs.box_line.Statement.{statement}
 use Rattle.survey.proofs.box_line.Tie as tie
 
-blank-requires : tie.Need-blank-requires
-blank-requires c κs = search needs
-
-slice-aggregate-field : tie.Need-slice-aggregate-field
-slice-aggregate-field c = search needs
-
-field-requires : tie.Need-field-requires
-field-requires c κs = search needs
-
-slice-aggregate-field-2 : tie.Need-slice-aggregate-field-2
-slice-aggregate-field-2 c = search needs
-
-field-requires-2 : tie.Need-field-requires-2
-field-requires-2 c κs = search needs
-
-slice-aggregate-field-3 : tie.Need-slice-aggregate-field-3
-slice-aggregate-field-3 c = search needs
-
-wide-requires : tie.Need-wide-requires
-wide-requires c κs = search needs
-
-field-requires-3 : tie.Need-field-requires-3
-field-requires-3 c κs = search needs
-
-slice-aggregate-field-4 : tie.Need-slice-aggregate-field-4
-slice-aggregate-field-4 c = search needs
-
-field-requires-4 : tie.Need-field-requires-4
-field-requires-4 c κs = search needs
-
-slice-aggregate-field-5 : tie.Need-slice-aggregate-field-5
-slice-aggregate-field-5 c = search needs
-
-field-requires-5 : tie.Need-field-requires-5
-field-requires-5 c κs = search needs
-
-slice-aggregate-field-6 : tie.Need-slice-aggregate-field-6
-slice-aggregate-field-6 c = search needs
-
 field-requires-6 : tie.Need-field-requires-6
-field-requires-6 c κs = omega (arith, c .before .field5 .ensures .1, c .before .before .before .field4 .ensures .1, c .before .before .before .before .before .field3 .ensures .1, c .before .before .before .before .before .before .before .before .field2 .ensures .1, c .before .before .before .before .before .before .before .before .before .before .field .ensures .1, c .before .before .before .before .before .before .before .before .before .before .before .before .blank .ensures .size)
-
-slice-aggregate-field-7 : tie.Need-slice-aggregate-field-7
-slice-aggregate-field-7 c = search needs
+field-requires-6 c κs = omega (
+  arith,
+  c .before .field5 .ensures .1,
+  c .before .before .before .field4 .ensures .1,
+  c .before .before .before .before .before .field3 .ensures .1,
+  c .before .before .before .before .before .before .before .before .field2 .ensures .1,
+  c .before .before .before .before .before .before .before .before .before .before .field .ensures .1,
+  c .before .before .before .before .before .before .before .before .before .before .before .before .blank .ensures .size,
+)
 
 field-requires-7 : tie.Need-field-requires-7
-field-requires-7 c κs = omega (arith, c .before .field6 .ensures .1, c .before .before .before .field5 .ensures .1, c .before .before .before .before .before .field4 .ensures .1, c .before .before .before .before .before .before .before .field3 .ensures .1, c .before .before .before .before .before .before .before .before .before .before .field2 .ensures .1, c .before .before .before .before .before .before .before .before .before .before .before .before .field .ensures .1, c .before .before .before .before .before .before .before .before .before .before .before .before .before .before .blank .ensures .size)
+field-requires-7 c κs = omega (
+  arith,
+  c .before .field6 .ensures .1,
+  c .before .before .before .field5 .ensures .1,
+  c .before .before .before .before .before .field4 .ensures .1,
+  c .before .before .before .before .before .before .before .field3 .ensures .1,
+  c .before .before .before .before .before .before .before .before .before .before .field2 .ensures .1,
+  c .before .before .before .before .before .before .before .before .before .before .before .before .field .ensures .1,
+  c .before .before .before .before .before .before .before .before .before .before .before .before .before .before .blank .ensures .size,
+)
 
 put-requires : tie.Need-put-requires
-put-requires c κs = omega (arith, c .field7 .ensures .1, c .before .before .field6 .ensures .1, c .before .before .before .before .field5 .ensures .1, c .before .before .before .before .before .before .field4 .ensures .1, c .before .before .before .before .before .before .before .before .field3 .ensures .1, c .before .before .before .before .before .before .before .before .before .before .before .field2 .ensures .1, c .before .before .before .before .before .before .before .before .before .before .before .before .before .field .ensures .1, c .before .before .before .before .before .before .before .before .before .before .before .before .before .before .before .blank .ensures .size)
+put-requires c κs = omega (
+  arith,
+  c .field7 .ensures .1,
+  c .before .before .field6 .ensures .1,
+  c .before .before .before .before .field5 .ensures .1,
+  c .before .before .before .before .before .before .field4 .ensures .1,
+  c .before .before .before .before .before .before .before .before .field3 .ensures .1,
+  c .before .before .before .before .before .before .before .before .before .before .before .field2 .ensures .1,
+  c .before .before .before .before .before .before .before .before .before .before .before .before .before .field .ensures .1,
+  c .before .before .before .before .before .before .before .before .before .before .before .before .before .before .before .blank .ensures .size,
+)
 
 returns : tie.Need-returns
 returns c =
     let one = says-adds (c .before .before .before .before .before .before .before .before .before .before .before .before .before .before .before .before .blank .ensures) (c .before .before .before .before .before .before .before .before .before .before .before .before .before .before .field .ensures .0) in
     let two = says-adds one (c .before .before .before .before .before .before .before .before .before .before .before .before .field2 .ensures .0) in
-    let three = says-adds two (adds-same (text " nets ") (c .before .before .before .before .before .before .before .before .before .before .wide .ensures) (c .before .before .before .before .before .before .before .before .before .field3 .ensures .0)) in
+    let three = says-adds two (adds-same (text " nets ")
+    (c .before .before .before .before .before .before .before .before .before .before .wide .ensures)
+    (c .before .before .before .before .before .before .before .before .before .field3 .ensures .0)) in
     let four = says-adds three (c .before .before .before .before .before .before .before .field4 .ensures .0) in
     let five = says-adds four (c .before .before .before .before .before .field5 .ensures .0) in
     let six = says-adds five (c .before .before .before .field6 .ensures .0) in
-    let seven = says-adds six (c .before .field7 .ensures .0) in
-    (says-adds seven (c .put .ensures), omega (arith, c .put .ensures .size, c .before .field7 .ensures .1, c .before .before .before .field6 .ensures .1, c .before .before .before .before .before .field5 .ensures .1, c .before .before .before .before .before .before .before .field4 .ensures .1, c .before .before .before .before .before .before .before .before .before .field3 .ensures .1, c .before .before .before .before .before .before .before .before .before .before .before .before .field2 .ensures .1, c .before .before .before .before .before .before .before .before .before .before .before .before .before .before .field .ensures .1, c .before .before .before .before .before .before .before .before .before .before .before .before .before .before .before .before .blank .ensures .size))
+    let seven = says-adds six (c .before .field7 .ensures .0) in (
+      says-adds seven (c .put .ensures),
+      omega (
+        arith,
+        c .put .ensures .size,
+        c .before .field7 .ensures .1,
+        c .before .before .before .field6 .ensures .1,
+        c .before .before .before .before .before .field5 .ensures .1,
+        c .before .before .before .before .before .before .before .field4 .ensures .1,
+        c .before .before .before .before .before .before .before .before .before .field3 .ensures .1,
+        c .before .before .before .before .before .before .before .before .before .before .before .before .field2 .ensures .1,
+        c .before .before .before .before .before .before .before .before .before .before .before .before .before .before .field .ensures .1,
+        c .before .before .before .before .before .before .before .before .before .before .before .before .before .before .before .before .blank .ensures .size,
+      ),
+    )
 
 pub box-line-spec : {M : Type 1} → statement M
 box-line-spec =
-    tie.close
-    (tie.spec
-    blank-requires
-    slice-aggregate-field
-    field-requires
-    slice-aggregate-field-2
-    field-requires-2
-    slice-aggregate-field-3
-    wide-requires
-    field-requires-3
-    slice-aggregate-field-4
-    field-requires-4
-    slice-aggregate-field-5
-    field-requires-5
-    slice-aggregate-field-6
-    field-requires-6
-    slice-aggregate-field-7
-    field-requires-7
-    put-requires
-    returns)
+    tie.close (tie.spec (λ c κs. search needs) (λ c. search needs) (λ c κs. search needs) (λ c. search needs) (λ c κs. search needs)
+    (λ c. search needs) (λ c κs. search needs) (λ c κs. search needs) (λ c. search needs) (λ c κs. search needs) (λ c. search needs)
+    (λ c κs. search needs) (λ c. search needs) field-requires-6 (λ c. search needs) field-requires-7 put-requires returns)

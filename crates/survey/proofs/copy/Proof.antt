@@ -19,27 +19,16 @@ abbrev μ-loop : tie.MeasureT-loop
 loop-holds : tie.Need-loop-holds Inv-loop μ-loop
 loop-holds c = (omega arith, refl, refl)
 
-array-read-out : tie.Need-array-read-out Inv-loop μ-loop
-array-read-out c = search needs
-
-slice-write-out : tie.Need-slice-write-out Inv-loop μ-loop
-slice-write-out c = search needs
-
-add-i : tie.Need-add-i Inv-loop μ-loop
-add-i c = search needs
-
-loop-less : tie.Need-loop-less Inv-loop μ-loop
-loop-less c = search needs
-
 loop-again : tie.Need-loop-again Inv-loop μ-loop
 loop-again c =
     let l = c .before .loop in
     let line = c .before .before .before .args .line in
-    let size : length (line .bytes) ≡ 192 = search needs in
-    (omega arith, simp length-set (l .inv .1), ap (λ (k : List ℕ). set k (l .i) (getD (line .bytes) (l .i) 0)) (l .inv .2) ∙ copied-more (line .bytes) (now (c .before .before .before .args .out)) (l .i) (omega arith) (omega arith))
-
-same-length : tie.Need-same-length Inv-loop μ-loop
-same-length c = search needs
+    let size : length (line .bytes) ≡ 192 = search needs in (
+      omega arith,
+      simp length-set (l .inv .1),
+      ap (λ (k : List ℕ). set k (l .i) (getD (line .bytes) (l .i) 0)) (l .inv .2) ∙ copied-more (line .bytes)
+          (now (c .before .before .before .args .out)) (l .i) (omega arith) (omega arith),
+    )
 
 returns : tie.Need-returns Inv-loop μ-loop
 returns c =
@@ -50,15 +39,5 @@ returns c =
 
 pub copy-spec : {M : Type 1} → statement M
 copy-spec =
-    tie.close
-    (tie.spec
-    Inv-loop
-    μ-loop
-    loop-holds
-    array-read-out
-    slice-write-out
-    add-i
-    loop-less
-    loop-again
-    same-length
-    returns)
+    tie.close (tie.spec Inv-loop μ-loop loop-holds (λ c. search needs) (λ c. search needs) (λ c. search needs) (λ c. search needs)
+    loop-again (λ c. search needs) returns)

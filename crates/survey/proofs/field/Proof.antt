@@ -11,9 +11,6 @@ use Rattle.survey.proofs.field.Tie as tie
 small : (x : ℕ) → Fits w64 x → x < 10 ^ 20
 small x h = omega (arith, h)
 
-word-requires : tie.Need-word-requires
-word-requires c κs = search needs
-
 number-requires : tie.Need-number-requires
 number-requires c κs =
     let x = c .before .before .args .x in
@@ -21,8 +18,11 @@ number-requires c κs =
 
 returns : tie.Need-returns
 returns c =
-    let x = c .before .before .before .args .x in
-    (adds-adds (c .before .word .ensures) (c .number .ensures), omega (arith, c .before .word .ensures .size, c .number .ensures .size, decimal-length 19 x (small x (c .before .before .before .fits .x))))
+    let x = c .before .before .before .args .x in (
+      adds-adds (c .before .word .ensures) (c .number .ensures),
+      omega
+          (arith, c .before .word .ensures .size, c .number .ensures .size, decimal-length 19 x (small x (c .before .before .before .fits .x))),
+    )
 
 pub field-spec : {M : Type 1} → statement M
-field-spec = tie.close (tie.spec word-requires number-requires returns)
+field-spec = tie.close (tie.spec (λ c κs. search needs) number-requires returns)

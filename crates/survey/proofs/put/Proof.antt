@@ -7,12 +7,6 @@ use Rattle.survey.proofs.Lines.{adds-one}
 use Rattle.survey.proofs.put.Statement.{statement}
 use Rattle.survey.proofs.put.Tie as tie
 
-array-write-bytes : tie.Need-array-write-bytes
-array-write-bytes c = search needs
-
-add-t8 : tie.Need-add-t8
-add-t8 c = search needs
-
 returns : tie.Need-returns
 returns c =
     let line = c .before .args .line in
@@ -20,4 +14,4 @@ returns c =
     adds-one line (c .before .args .b) (omega arith)
 
 pub put-spec : {M : Type 1} → statement M
-put-spec = tie.close (tie.spec array-write-bytes add-t8 returns)
+put-spec = tie.close (tie.spec (λ c. search needs) (λ c. search needs) returns)

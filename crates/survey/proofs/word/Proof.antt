@@ -12,7 +12,8 @@ use Rattle.survey.proofs.word.Statement.{statement}
 use Rattle.survey.proofs.word.Tie as tie
 
 abbrev Inv-loop : tie.InvT-loop
-Inv-loop words bytes₀ used₀ i₀ bytes used i = (i ≤ length words) × (length bytes ≡ 192) × Adds (record { bytes = bytes₀; used = used₀ }) (take i words) (record { bytes = bytes; used = used })
+Inv-loop words bytes₀ used₀ i₀ bytes used i = (i ≤ length words) × (length bytes ≡ 192) × Adds (record { bytes = bytes₀; used = used₀ }) (take i words)
+    (record { bytes = bytes; used = used })
 
 abbrev μ-loop : tie.MeasureT-loop
 μ-loop words bytes₀ used₀ i₀ bytes used i = length words - i
@@ -20,26 +21,24 @@ abbrev μ-loop : tie.MeasureT-loop
 loop-holds : tie.Need-loop-holds Inv-loop μ-loop
 loop-holds c = (omega arith, search needs, adds-none _)
 
-shared-slice-read-bytes : tie.Need-shared-slice-read-bytes Inv-loop μ-loop
-shared-slice-read-bytes c = search needs
-
 array-write-bytes : tie.Need-array-write-bytes Inv-loop μ-loop
-array-write-bytes c = let l = c .before .before .loop in omega (arith, l .inv .1, l .inv .2 .size, length-take-le (l .i) (now (c .before .before .before .before .args .words)) (l .inv .0))
+array-write-bytes c = let l = c .before .before .loop in omega
+    (arith, l .inv .1, l .inv .2 .size, length-take-le (l .i) (now (c .before .before .before .before .args .words)) (l .inv .0))
 
 add-used : tie.Need-add-used Inv-loop μ-loop
-add-used c = let l = c .before .before .loop in omega (arith, l .inv .2 .size, length-take-le (l .i) (now (c .before .before .before .before .args .words)) (l .inv .0))
-
-add-i : tie.Need-add-i Inv-loop μ-loop
-add-i c = search needs
-
-loop-less : tie.Need-loop-less Inv-loop μ-loop
-loop-less c = search needs
+add-used c = let l = c .before .before .loop in omega
+    (arith, l .inv .2 .size, length-take-le (l .i) (now (c .before .before .before .before .args .words)) (l .inv .0))
 
 loop-again : tie.Need-loop-again Inv-loop μ-loop
 loop-again c =
     let l = c .before .before .loop in
-    let words = now (c .before .before .before .before .args .words) in
-    (omega arith, simp length-set (l .inv .1), adds-more words (l .i) (c .before .loop-test .taken) (l .inv .2) (adds-one (record { bytes = l .bytes; used = l .used }) (getD words (l .i) 0) (omega (arith, l .inv .1, l .inv .2 .size, length-take-le (l .i) words (l .inv .0)))))
+    let words = now (c .before .before .before .before .args .words) in (
+      omega arith,
+      simp length-set (l .inv .1),
+      adds-more words (l .i) (c .before .loop-test .taken) (l .inv .2)
+          (adds-one (record { bytes = l .bytes; used = l .used }) (getD words (l .i) 0)
+          (omega (arith, l .inv .1, l .inv .2 .size, length-take-le (l .i) words (l .inv .0)))),
+    )
 
 returns : tie.Need-returns Inv-loop μ-loop
 returns c =
@@ -50,15 +49,5 @@ returns c =
 
 pub word-spec : {M : Type 1} → statement M
 word-spec =
-    tie.close
-    (tie.spec
-    Inv-loop
-    μ-loop
-    loop-holds
-    shared-slice-read-bytes
-    array-write-bytes
-    add-used
-    add-i
-    loop-less
-    loop-again
-    returns)
+    tie.close (tie.spec Inv-loop μ-loop loop-holds (λ c. search needs) array-write-bytes add-used (λ c. search needs)
+    (λ c. search needs) loop-again returns)

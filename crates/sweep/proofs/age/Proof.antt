@@ -20,17 +20,8 @@ loop-holds c = (search needs, search needs, ageing-start _)
 slice-read-aged : tie.Need-slice-read-aged Inv-loop μ-loop
 slice-read-aged c = omega (arith, c .before .before .loop .inv .2 .size)
 
-aged-requires : tie.Need-aged-requires Inv-loop μ-loop
-aged-requires c κs = search needs
-
 slice-write-m : tie.Need-slice-write-m Inv-loop μ-loop
 slice-write-m c = omega (arith, c .before .before .before .loop .inv .2 .size)
-
-add-a : tie.Need-add-a Inv-loop μ-loop
-add-a c = search needs
-
-loop-less : tie.Need-loop-less Inv-loop μ-loop
-loop-less c = search needs
 
 loop-again : tie.Need-loop-again Inv-loop μ-loop
 loop-again c = (search needs, search needs, ageing-more _ _ _ _ (omega arith) (c .before .before .before .loop .inv .2) (c .aged .ensures))
@@ -49,10 +40,10 @@ age-spec =
     μ-loop
     loop-holds
     slice-read-aged
-    aged-requires
+    (λ c κs. search needs)
     slice-write-m
-    add-a
-    loop-less
+    (λ c. search needs)
+    (λ c. search needs)
     loop-again
     same-length
     returns)

@@ -17,36 +17,6 @@ abbrev μ-loop : tie.MeasureT-loop
 loop-holds : tie.Need-loop-holds Inv-loop μ-loop
 loop-holds c = (search needs, all-none _ _ _ _)
 
-add-a : tie.Need-add-a Inv-loop μ-loop
-add-a c = search needs
-
-add-b : tie.Need-add-b Inv-loop μ-loop
-add-b c = search needs
-
-shared-slice-read-open : tie.Need-shared-slice-read-open Inv-loop μ-loop
-shared-slice-read-open c = search needs
-
-shared-slice-read-open-2 : tie.Need-shared-slice-read-open-2 Inv-loop μ-loop
-shared-slice-read-open-2 c = search needs
-
-shared-slice-read-open-3 : tie.Need-shared-slice-read-open-3 Inv-loop μ-loop
-shared-slice-read-open-3 c = search needs
-
-shared-slice-read-open-4 : tie.Need-shared-slice-read-open-4 Inv-loop μ-loop
-shared-slice-read-open-4 c = search needs
-
-open-requires : tie.Need-open-requires Inv-loop μ-loop
-open-requires c κs = search needs
-
-larger-requires : tie.Need-larger-requires Inv-loop μ-loop
-larger-requires c κs = search needs
-
-add-t : tie.Need-add-t Inv-loop μ-loop
-add-t c = search needs
-
-loop-less : tie.Need-loop-less Inv-loop μ-loop
-loop-less c = search needs
-
 loop-again : tie.Need-loop-again Inv-loop μ-loop
 loop-again c =
     let args = c .before .before .before .before .before .before .before .before .before .before .args in
@@ -65,15 +35,15 @@ any-open-spec =
     Inv-loop
     μ-loop
     loop-holds
-    add-a
-    add-b
-    shared-slice-read-open
-    shared-slice-read-open-2
-    shared-slice-read-open-3
-    shared-slice-read-open-4
-    open-requires
-    larger-requires
-    add-t
-    loop-less
+    (λ c. search needs)
+    (λ c. search needs)
+    (λ c. search needs)
+    (λ c. search needs)
+    (λ c. search needs)
+    (λ c. search needs)
+    (λ c κs. search needs)
+    (λ c κs. search needs)
+    (λ c. search needs)
+    (λ c. search needs)
     loop-again
     returns)

@@ -18,12 +18,6 @@ side-requires c κs =
     let start = c .before .before .before .before .before .before .before in
     omega (arith, start .pre, start .good, first-row (start .args .n) (start .args .w) (start .pre .wide .0), mul-comm (start .args .n) (start .args .w))
 
-sub-side : tie.Need-sub-side
-sub-side c = search needs
-
-add-side : tie.Need-add-side
-add-side c = search needs
-
 side-requires-2 : tie.Need-side-requires-2
 side-requires-2 c κs =
     let start = c .before .before .before .before .before .before .before .before .before .before .before .before .before .before in
@@ -35,12 +29,6 @@ add-result c =
     let side = c .before .before .before .before .before .before .before .before .before .before .before .side in
     let side2 = c .before .before .before .before .side2 in
     omega (arith, zeros-le (now (start .args .s)), zeros-le (now (start .args .m)), side .ensures .less, side2 .ensures .less, start .good)
-
-same-length : tie.Need-same-length
-same-length c = search needs
-
-same-length-2 : tie.Need-same-length-2
-same-length-2 c = search needs
 
 returns : tie.Need-returns
 returns c =
@@ -82,12 +70,6 @@ add-result-2 c =
     let side4 = c .before .before .before .before .side4 in
     omega (arith, zeros-le (now (start .args .s)), zeros-le (now (start .args .m)), side3 .ensures .less, side4 .ensures .less, start .good)
 
-same-length-3 : tie.Need-same-length-3
-same-length-3 c = search needs
-
-same-length-4 : tie.Need-same-length-4
-same-length-4 c = search needs
-
 returns-2 : tie.Need-returns-2
 returns-2 c =
     let args = c .before .before .before .before .before .before .before .before .before .before .before .before .before .before .before .before .before .before .before .args in
@@ -101,12 +83,12 @@ ends-spec =
     tie.close
     (tie.spec
     side-requires
-    sub-side
-    add-side
+    (λ c. search needs)
+    (λ c. search needs)
     side-requires-2
     add-result
-    same-length
-    same-length-2
+    (λ c. search needs)
+    (λ c. search needs)
     returns
     side-requires-3
     mul-side
@@ -114,6 +96,6 @@ ends-spec =
     add-side-2
     side-requires-4
     add-result-2
-    same-length-3
-    same-length-4
+    (λ c. search needs)
+    (λ c. search needs)
     returns-2)

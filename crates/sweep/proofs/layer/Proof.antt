@@ -12,23 +12,14 @@ use Rattle.sweep.proofs.Sweeping.{swept-then, swept-at}
 use Rattle.sweep.proofs.layer.Statement.{statement}
 use Rattle.sweep.proofs.layer.Tie as tie
 
-mul-area : tie.Need-mul-area
-mul-area c = search needs
-
 run-if-requires : tie.Need-run-if-requires
 run-if-requires c κs = (λ e. omega (arith, c .before .before .before .pre .0 .next e), search needs)
-
-rows-requires : tie.Need-rows-requires
-rows-requires c κs = search needs
 
 add-result : tie.Need-add-result
 add-result c =
     let args = c .before .before .before .before .before .before .before .before .before .before .before .args in
     let run-if = c .before .before .before .before .before .before .before .run-if in
     omega (arith, zeros-le (now (args .m)), run-if .ensures .less, c .before .before .rows .ensures .less)
-
-same-length : tie.Need-same-length
-same-length c = search needs
 
 returns : tie.Need-returns
 returns c =
@@ -53,9 +44,6 @@ add-result-2 c =
     let run-if = c .before .before .before .before .before .before .before .run-if in
     omega (arith, zeros-le (now (args .m)), run-if .ensures .less, c .before .before .run .ensures .less)
 
-same-length-2 : tie.Need-same-length-2
-same-length-2 c = search needs
-
 returns-2 : tie.Need-returns-2
 returns-2 c =
     let run-if = c .before .before .before .before .before .before .before .run-if in
@@ -67,14 +55,14 @@ pub layer-spec : {M : Type 1} → statement M
 layer-spec =
     tie.close
     (tie.spec
-    mul-area
+    (λ c. search needs)
     run-if-requires
-    rows-requires
+    (λ c κs. search needs)
     add-result
-    same-length
+    (λ c. search needs)
     returns
     sub-run
     run-requires
     add-result-2
-    same-length-2
+    (λ c. search needs)
     returns-2)

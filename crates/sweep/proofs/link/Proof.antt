@@ -6,28 +6,10 @@ use Rattle.sweep.proofs.Sweeping.{only-quiet, only-first, only-second, 
 use Rattle.sweep.proofs.link.Statement.{statement}
 use Rattle.sweep.proofs.link.Tie as tie
 
-shared-slice-read-if1 : tie.Need-shared-slice-read-if1
-shared-slice-read-if1 c = search needs
-
-shared-slice-read-if1-2 : tie.Need-shared-slice-read-if1-2
-shared-slice-read-if1-2 c = search needs
-
 returns : tie.Need-returns
 returns c =
     let if1 = c .if1 in
     only-quiet _ _ (record { there = λ q h. absurd (if1 .taken q); back = λ q h. absurd (if1 .taken q) })
-
-slice-read-if2 : tie.Need-slice-read-if2
-slice-read-if2 c = search needs
-
-slice-read-if3 : tie.Need-slice-read-if3
-slice-read-if3 c = search needs
-
-slice-write-m : tie.Need-slice-write-m
-slice-write-m c = search needs
-
-same-length : tie.Need-same-length
-same-length c = search needs
 
 returns-2 : tie.Need-returns-2
 returns-2 c =
@@ -37,18 +19,6 @@ returns-2 c =
 
 returns-3 : tie.Need-returns-3
 returns-3 c = only-quiet _ _ (record { there = λ q h. absurd (omega arith); back = λ q h. absurd (c .if3 .left h) })
-
-slice-read-if4 : tie.Need-slice-read-if4
-slice-read-if4 c = search needs
-
-slice-read-if5 : tie.Need-slice-read-if5
-slice-read-if5 c = search needs
-
-slice-write-m-2 : tie.Need-slice-write-m-2
-slice-write-m-2 c = search needs
-
-same-length-2 : tie.Need-same-length-2
-same-length-2 c = search needs
 
 returns-4 : tie.Need-returns-4
 returns-4 c =
@@ -68,19 +38,19 @@ pub link-spec : {M : Type 1} → statement M
 link-spec =
     tie.close
     (tie.spec
-    shared-slice-read-if1
-    shared-slice-read-if1-2
+    (λ c. search needs)
+    (λ c. search needs)
     returns
-    slice-read-if2
-    slice-read-if3
-    slice-write-m
-    same-length
+    (λ c. search needs)
+    (λ c. search needs)
+    (λ c. search needs)
+    (λ c. search needs)
     returns-2
     returns-3
-    slice-read-if4
-    slice-read-if5
-    slice-write-m-2
-    same-length-2
+    (λ c. search needs)
+    (λ c. search needs)
+    (λ c. search needs)
+    (λ c. search needs)
     returns-4
     returns-5
     returns-6)

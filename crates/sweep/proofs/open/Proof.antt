@@ -16,20 +16,8 @@ asks va vb ma mb e n a b s =
       | no o ↦ s .there e (omega arith) (let h : mb ≢ 1 = λ q. n (omega arith) in omega arith)
     ]
 
-returns : tie.Need-returns
-returns c = search needs
-
-returns-2 : tie.Need-returns-2
-returns-2 c = search needs
-
-returns-3 : tie.Need-returns-3
-returns-3 c = search needs
-
-returns-4 : tie.Need-returns-4
-returns-4 c = search needs
-
 returns-5 : tie.Need-returns-5
 returns-5 c = (λ z. absurd (omega arith), λ s. absurd (asks _ _ _ _ (c .before .before .before .if1 .left) (c .before .before .if2 .left) (omega arith) (omega arith) s))
 
 pub open-spec : {M : Type 1} → statement M
-open-spec = tie.close (tie.spec returns returns-2 returns-3 returns-4 returns-5)
+open-spec = tie.close (tie.spec (λ c. search needs) (λ c. search needs) (λ c. search needs) (λ c. search needs) returns-5)

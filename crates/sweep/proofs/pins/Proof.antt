@@ -26,9 +26,6 @@ loop-holds c =
     let args = c .before .before .before .before .args in
     (search needs, omega (arith, zero-mul (args .f .n * args .f .w)), search needs, search needs, below-none _)
 
-is-horizontal-requires : tie.Need-is-horizontal-requires Inv-loop μ-loop
-is-horizontal-requires c κs = search needs
-
 ends-requires : tie.Need-ends-requires Inv-loop μ-loop
 ends-requires c κs =
     let start = c .before .before .before .before .before .before .before .before .before in
@@ -56,12 +53,6 @@ add-from c =
     let loop-test = c .before .before .before .before .before .before .before .before .loop-test in
     omega (arith, start .pre, start .good, loop .inv, rows-in (loop .l) (start .args .f .k) (start .args .f .n * start .args .f .w) (loop-test .taken))
 
-add-l : tie.Need-add-l Inv-loop μ-loop
-add-l c = search needs
-
-loop-less : tie.Need-loop-less Inv-loop μ-loop
-loop-less c = search needs
-
 loop-again : tie.Need-loop-again Inv-loop μ-loop
 loop-again c =
     let loop = c .before .before .before .before .before .before .before .before .before .loop in
@@ -77,12 +68,6 @@ loop-again c =
           (swept-at (λ (q : ℕ). Ends q (args .f .n) (args .f .w) (is-horizontal .result)) _ _ (loop .inv .1) (ends .ensures))),
     )
 
-same-length : tie.Need-same-length Inv-loop μ-loop
-same-length c = search needs
-
-same-length-2 : tie.Need-same-length-2 Inv-loop μ-loop
-same-length-2 c = search needs
-
 returns : tie.Need-returns Inv-loop μ-loop
 returns c = below-all _ _ _ (omega arith) (c .before .loop .inv .4)
 
@@ -93,14 +78,14 @@ pins-spec =
     Inv-loop
     μ-loop
     loop-holds
-    is-horizontal-requires
+    (λ c κs. search needs)
     ends-requires
     add-made
     mul-from
     add-from
-    add-l
-    loop-less
+    (λ c. search needs)
+    (λ c. search needs)
     loop-again
-    same-length
-    same-length-2
+    (λ c. search needs)
+    (λ c. search needs)
     returns)

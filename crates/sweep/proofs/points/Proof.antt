@@ -28,12 +28,6 @@ loop-holds c =
     let args = c .before .before .args in
     (search needs, omega (arith, zero-mul (args .f .n * args .f .w)), search needs, below-none _)
 
-add-layer : tie.Need-add-layer Inv-loop μ-loop
-add-layer c = search needs
-
-is-horizontal-requires : tie.Need-is-horizontal-requires Inv-loop μ-loop
-is-horizontal-requires c κs = search needs
-
 layer-requires : tie.Need-layer-requires Inv-loop μ-loop
 layer-requires c κs =
     let loop = c .before .before .before .loop in
@@ -68,12 +62,6 @@ add-from c =
     let loop-test = c .before .before .before .before .before .loop-test in
     omega (arith, rows-in (loop .l) (args .f .k) (args .f .n * args .f .w) (loop-test .taken))
 
-add-l : tie.Need-add-l Inv-loop μ-loop
-add-l c = search needs
-
-loop-less : tie.Need-loop-less Inv-loop μ-loop
-loop-less c = search needs
-
 loop-again : tie.Need-loop-again Inv-loop μ-loop
 loop-again c =
     let loop = c .before .before .before .before .before .before .loop in
@@ -87,9 +75,6 @@ loop-again c =
           (swept-at (λ (q : ℕ). Layer q (args .f .n) (args .f .w) (ltb (loop .l + 1) (args .f .k)) (is-horizontal .result)) _ _ (loop .inv .1) (c .before .before .layer .ensures))),
     )
 
-same-length : tie.Need-same-length Inv-loop μ-loop
-same-length c = search needs
-
 returns : tie.Need-returns Inv-loop μ-loop
 returns c = below-all _ _ _ (omega arith) (c .before .loop .inv .3)
 
@@ -100,14 +85,14 @@ points-spec =
     Inv-loop
     μ-loop
     loop-holds
-    add-layer
-    is-horizontal-requires
+    (λ c. search needs)
+    (λ c κs. search needs)
     layer-requires
     add-made
     mul-from
     add-from
-    add-l
-    loop-less
+    (λ c. search needs)
+    (λ c. search needs)
     loop-again
-    same-length
+    (λ c. search needs)
     returns)

@@ -23,9 +23,6 @@ abbrev μ-loop : tie.MeasureT-loop
 loop-holds : tie.Need-loop-holds Inv-loop μ-loop
 loop-holds c = (search needs, omega (arith, zero-mul (c .before .before .args .n)), search needs, below-none _)
 
-sub-run : tie.Need-sub-run Inv-loop μ-loop
-sub-run c = search needs
-
 run-requires : tie.Need-run-requires Inv-loop μ-loop
 run-requires c κs =
     let args = c .before .before .before .before .before .args in
@@ -44,20 +41,11 @@ add-from c =
     let loop-test = c .before .before .before .before .loop-test in
     omega (arith, rows-in (loop .j) (args .w) (args .n) (loop-test .taken))
 
-add-j : tie.Need-add-j Inv-loop μ-loop
-add-j c = search needs
-
-loop-less : tie.Need-loop-less Inv-loop μ-loop
-loop-less c = search needs
-
 loop-again : tie.Need-loop-again Inv-loop μ-loop
 loop-again c =
     let loop = c .before .before .before .before .before .loop in
     let args = c .before .before .before .before .before .before .before .before .args in
     (search needs, omega (arith, next-row (loop .j) (args .n)), search needs, below-more (λ j. Run (args .q + j * args .n) (args .n - 1) 1) _ (loop .inv .3) (swept-at (λ (q : ℕ). Run q (args .n - 1) 1) _ _ (loop .inv .1) (c .before .before .run .ensures)))
-
-same-length : tie.Need-same-length Inv-loop μ-loop
-same-length c = search needs
 
 returns : tie.Need-returns Inv-loop μ-loop
 returns c = below-all _ _ _ (omega arith) (c .before .loop .inv .3)
@@ -69,12 +57,12 @@ rows-spec =
     Inv-loop
     μ-loop
     loop-holds
-    sub-run
+    (λ c. search needs)
     run-requires
     add-made
     add-from
-    add-j
-    loop-less
+    (λ c. search needs)
+    (λ c. search needs)
     loop-again
-    same-length
+    (λ c. search needs)
     returns)

@@ -11,9 +11,6 @@ run-requires c κs =
     let pre = c .before .before .before .before .pre in
     (pre .0 (c .before .if1 .taken), pre .1)
 
-same-length : tie.Need-same-length
-same-length c = search needs
-
 returns : tie.Need-returns
 returns c =
     let if1 = c .before .before .before .before .if1 in
@@ -23,4 +20,4 @@ returns-2 : tie.Need-returns-2
 returns-2 c = swept-none _ (λ a b e. true≢false (sym (e .0) ∙ c .if1 .left))
 
 pub run-if-spec : {M : Type 1} → statement M
-run-if-spec = tie.close (tie.spec run-requires same-length returns returns-2)
+run-if-spec = tie.close (tie.spec run-requires (λ c. search needs) returns returns-2)

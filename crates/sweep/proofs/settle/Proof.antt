@@ -20,12 +20,6 @@ abbrev μ-loop : tie.MeasureT-loop
 loop-holds : tie.Need-loop-holds Inv-loop μ-loop
 loop-holds c = (search needs, search needs, going-start)
 
-age-requires : tie.Need-age-requires Inv-loop μ-loop
-age-requires c κs = search needs
-
-age-requires-2 : tie.Need-age-requires-2 Inv-loop μ-loop
-age-requires-2 c κs = search needs
-
 sweep-requires : tie.Need-sweep-requires Inv-loop μ-loop
 sweep-requires c κs =
     let pre = c .before .before .before .before .before .before .before .before .before .before .before .before .before .before .before .before .pre in
@@ -47,12 +41,6 @@ loop-again c =
     let sweep = c .before .before .before .before .sweep in
     (search needs, search needs, going-more (loop .inv .2) (aged-two (loop .s) (loop .m) (age .last .0) (age2 .last .0) (age .ensures) (age2 .ensures)) (sweep .ensures))
 
-same-length : tie.Need-same-length Inv-loop μ-loop
-same-length c = search needs
-
-same-length-2 : tie.Need-same-length-2 Inv-loop μ-loop
-same-length-2 c = search needs
-
 returns : tie.Need-returns Inv-loop μ-loop
 returns c = going-end (c .loop-test .left) (c .before .loop .inv .2)
 
@@ -63,11 +51,11 @@ settle-spec =
     Inv-loop
     μ-loop
     loop-holds
-    age-requires
-    age-requires-2
+    (λ c κs. search needs)
+    (λ c κs. search needs)
     sweep-requires
     loop-less
     loop-again
-    same-length
-    same-length-2
+    (λ c. search needs)
+    (λ c. search needs)
     returns)

@@ -50,24 +50,12 @@ add-from c =
     let loop-test = c .before .before .before .before .before .before .before .loop-test in
     omega (arith, start .pre, start .good, rows-in (loop .t) (start .args .count) (start .args .gap) (loop-test .taken), loop .inv)
 
-add-t : tie.Need-add-t Inv-loop μ-loop
-add-t c = search needs
-
-loop-less : tie.Need-loop-less Inv-loop μ-loop
-loop-less c = search needs
-
 loop-again : tie.Need-loop-again Inv-loop μ-loop
 loop-again c =
     let loop = c .before .before .before .before .before .before .before .before .loop in
     let args = c .before .before .before .before .before .before .before .before .before .before .before .before .before .args in
     let touch = c .before .before .before .before .touch in
     (search needs, omega (arith, next-row (loop .t) (args .gap), loop .inv), search needs, search needs, below-more (λ t. Only (a-pin (args .first + t)) (a-point (args .start + t * args .gap))) _ (loop .inv .4) (swept-at (λ (q : ℕ). Only (a-pin (args .first + loop .t)) (a-point q)) _ _ (loop .inv .1) (touch .ensures)))
-
-same-length : tie.Need-same-length Inv-loop μ-loop
-same-length c = search needs
-
-same-length-2 : tie.Need-same-length-2 Inv-loop μ-loop
-same-length-2 c = search needs
 
 returns : tie.Need-returns Inv-loop μ-loop
 returns c = below-all _ _ _ (omega arith) (c .before .loop .inv .4)
@@ -83,9 +71,9 @@ side-spec =
     touch-requires
     add-made
     add-from
-    add-t
-    loop-less
+    (λ c. search needs)
+    (λ c. search needs)
     loop-again
-    same-length
-    same-length-2
+    (λ c. search needs)
+    (λ c. search needs)
     returns)

@@ -25,12 +25,6 @@ add-result c =
     let pins = c .before .before .before .before .pins in
     omega (arith, zeros-le (now (start .args .s)), zeros-le (now (start .args .m)), points .ensures .less, pins .ensures .less, start .good)
 
-same-length : tie.Need-same-length
-same-length c = search needs
-
-same-length-2 : tie.Need-same-length-2
-same-length-2 c = search needs
-
 returns : tie.Need-returns
 returns c =
     let args = c .before .before .before .before .before .before .before .before .before .before .before .before .before .before .before .args in
@@ -40,4 +34,4 @@ returns c =
 
 pub sweep-spec : {M : Type 1} → statement M
 sweep-spec =
-    tie.close (tie.spec points-requires pins-requires add-result same-length same-length-2 returns)
+    tie.close (tie.spec points-requires pins-requires add-result (λ c. search needs) (λ c. search needs) returns)

@@ -7,28 +7,10 @@ use Rattle.sweep.proofs.Sweeping.{only-quiet, only-first, only-second, 
 use Rattle.sweep.proofs.touch.Statement.{statement}
 use Rattle.sweep.proofs.touch.Tie as tie
 
-shared-slice-read-if1 : tie.Need-shared-slice-read-if1
-shared-slice-read-if1 c = search needs
-
-shared-slice-read-if1-2 : tie.Need-shared-slice-read-if1-2
-shared-slice-read-if1-2 c = search needs
-
 returns : tie.Need-returns
 returns c =
     let if1 = c .if1 in
     only-quiet (a-pin _) (a-point _) (record { there = λ q h. absurd (if1 .taken q); back = λ q h. absurd (if1 .taken q) })
-
-slice-read-pin : tie.Need-slice-read-pin
-slice-read-pin c = search needs
-
-slice-read-point : tie.Need-slice-read-point
-slice-read-point c = search needs
-
-slice-write-s : tie.Need-slice-write-s
-slice-write-s c = search needs
-
-same-length : tie.Need-same-length
-same-length c = search needs
 
 returns-2 : tie.Need-returns-2
 returns-2 c =
@@ -38,12 +20,6 @@ returns-2 c =
 
 returns-3 : tie.Need-returns-3
 returns-3 c = only-quiet (a-pin _) (a-point _) (record { there = λ q h. absurd (omega arith); back = λ q h. absurd (c .if3 .left h) })
-
-slice-write-m : tie.Need-slice-write-m
-slice-write-m c = search needs
-
-same-length-2 : tie.Need-same-length-2
-same-length-2 c = search needs
 
 returns-4 : tie.Need-returns-4
 returns-4 c =
@@ -61,17 +37,17 @@ pub touch-spec : {M : Type 1} → statement M
 touch-spec =
     tie.close
     (tie.spec
-    shared-slice-read-if1
-    shared-slice-read-if1-2
+    (λ c. search needs)
+    (λ c. search needs)
     returns
-    slice-read-pin
-    slice-read-point
-    slice-write-s
-    same-length
+    (λ c. search needs)
+    (λ c. search needs)
+    (λ c. search needs)
+    (λ c. search needs)
     returns-2
     returns-3
-    slice-write-m
-    same-length-2
+    (λ c. search needs)
+    (λ c. search needs)
     returns-4
     returns-5
     returns-6)

@@ -1,7 +1,9 @@
+-- The count of the first k nets is the sum of the first k tests.
 use Prim.Native.Nat.{_≤_, _-_}
 use mathlib.Core.Path.{_≡_, sym, ap, _∙_}
 use native.Mathlib.Omega.{arith}
 use borrow.Author.Needs.{needs}
+use Rattle.terms.specs.Limits.{largestNet}
 use Rattle.switchbox.specs.Box.{cornerAt}
 use Rattle.switchbox.proofs.count_corner.Statement.{statement}
 use Rattle.switchbox.proofs.count_corner.Tie as tie
@@ -9,37 +11,13 @@ use Rattle.counting.specs.Counting.{bit, count}
 use Rattle.counting.proofs.Sums.{sum-more, sum-none}
 
 abbrev Inv-loop : tie.InvT-loop
-Inv-loop a b c d found₀ k₀ found k = (k ≤ 180) × (found ≤ k) × (found ≡ count (cornerAt a b c d) k)
+Inv-loop a b c d found₀ k₀ found k = (k ≤ largestNet) × (found ≤ k) × (found ≡ count (cornerAt a b c d) k)
 
 abbrev μ-loop : tie.MeasureT-loop
-μ-loop a b c d found₀ k₀ found k = 180 - k
+μ-loop a b c d found₀ k₀ found k = largestNet - k
 
 loop-holds : tie.Need-loop-holds Inv-loop μ-loop
 loop-holds c = (omega arith, omega arith, sym (sum-none _))
-
-add-k : tie.Need-add-k Inv-loop μ-loop
-add-k c = search needs
-
-element-copy-out-is-corner : tie.Need-element-copy-out-is-corner Inv-loop μ-loop
-element-copy-out-is-corner c = search needs
-
-element-copy-out-is-corner-2 : tie.Need-element-copy-out-is-corner-2 Inv-loop μ-loop
-element-copy-out-is-corner-2 c = search needs
-
-element-copy-out-is-corner-3 : tie.Need-element-copy-out-is-corner-3 Inv-loop μ-loop
-element-copy-out-is-corner-3 c = search needs
-
-element-copy-out-is-corner-4 : tie.Need-element-copy-out-is-corner-4 Inv-loop μ-loop
-element-copy-out-is-corner-4 c = search needs
-
-is-corner-requires : tie.Need-is-corner-requires Inv-loop μ-loop
-is-corner-requires c κs = search needs
-
-add-found : tie.Need-add-found Inv-loop μ-loop
-add-found c = search needs
-
-loop-less : tie.Need-loop-less Inv-loop μ-loop
-loop-less c = search needs
 
 loop-again : tie.Need-loop-again Inv-loop μ-loop
 loop-again c =
@@ -48,9 +26,6 @@ loop-again c =
     let p = cornerAt (a .a .now) (a .b .now) (a .c .now) (a .d .now) in
     let e = ap bit (sym (c .before .is-corner .ensures) ∙ c .if1 .taken) in
     (omega (arith, l .inv .0), omega (arith, l .inv .1), omega (arith, l .inv .2, sum-more (λ m. bit (p m)) (l .k), e))
-
-loop-less-2 : tie.Need-loop-less-2 Inv-loop μ-loop
-loop-less-2 c = search needs
 
 loop-again-2 : tie.Need-loop-again-2 Inv-loop μ-loop
 loop-again-2 c =
@@ -63,26 +38,12 @@ loop-again-2 c =
 returns : tie.Need-returns Inv-loop μ-loop
 returns c =
     let l = c .before .loop in
-    let e : l .k ≡ 180 = omega arith in
+    let e : l .k ≡ largestNet = omega arith in
     let a = c .before .before .args in
     l .inv .2 ∙ ap (count (cornerAt (a .a .now) (a .b .now) (a .c .now) (a .d .now))) e
 
 pub count-corner-spec : {M : Type 1} → statement M
 count-corner-spec =
-    tie.close
-    (tie.spec
-    Inv-loop
-    μ-loop
-    loop-holds
-    add-k
-    element-copy-out-is-corner
-    element-copy-out-is-corner-2
-    element-copy-out-is-corner-3
-    element-copy-out-is-corner-4
-    is-corner-requires
-    add-found
-    loop-less
-    loop-again
-    loop-less-2
-    loop-again-2
+    tie.close (tie.spec Inv-loop μ-loop loop-holds (λ c. search needs) (λ c. search needs) (λ c. search needs) (λ c. search needs)
+    (λ c. search needs) (λ c κs. search needs) (λ c. search needs) (λ c. search needs) loop-again (λ c. search needs) loop-again-2
     returns)

@@ -1,46 +1,56 @@
--- The layers are painted from the bottom; each call leaves the buffer as long as it was.
-use mathlib.Core.Path.{refl}
+-- Each of the last four layers is painted in the part of the wiring that it is; `Layered` says how many are drawn.
+use Prim.Native.Nat.{ℕ, _*_}
+use mathlib.Core.Path.{sym, ap, _∙_}
 use native.Mathlib.Omega.{arith}
-use Rattle.switchbox.proofs.Layers.{drawn-as-long}
-use Rattle.switchbox.proofs.Drawing.{layer-fits, layer-small, box-drawn}
+use lib.ListN.{length}
 use borrow.Author.Needs.{needs}
+use Rattle.switchbox.proofs.Layers.{drawn-as-long}
+use Rattle.switchbox.proofs.Drawing.{layer-small, layer-fits, layer-size, lower-layers, north-comb, east-comb, column-layer, west-comb}
 use Rattle.switchbox.proofs.draw.Statement.{statement}
 use Rattle.switchbox.proofs.draw.Tie as tie
 
-mul-size : tie.Need-mul-size
-mul-size c = search needs
-
-mul-from : tie.Need-mul-from
-mul-from c = search needs
-
-mul-from-2 : tie.Need-mul-from-2
-mul-from-2 c = search needs
-
-track-layers-requires : tie.Need-track-layers-requires
-track-layers-requires c κs = search needs
+part-paint-up-end : tie.Need-part-paint-up-end
+part-paint-up-end c =
+    let at-track-layers = c .before .before in
+    let start = at-track-layers .before .before .before .before .before .before .before .before .before in
+    let y0 = lower-layers (start .pre) (at-track-layers .track-layers .ensures) in
+    omega (arith, layer-fits (start .pre) y0 (omega arith))
 
 paint-up-requires : tie.Need-paint-up-requires
-paint-up-requires c κs = search needs
+paint-up-requires c κs =
+    let at-track-layers = c .before .before .before in
+    let start = at-track-layers .before .before .before .before .before .before .before .before .before in
+    let y0 = lower-layers (start .pre) (at-track-layers .track-layers .ensures) in
+    layer-size (start .pre) y0 (omega arith)
 
-add-paint-across : tie.Need-add-paint-across
-add-paint-across c = search needs
+part-paint-across-end : tie.Need-part-paint-across-end
+part-paint-across-end c =
+    let at-paint-up = c .before .before in
+    let at-track-layers = at-paint-up .before .before .before .before in
+    let start = at-track-layers .before .before .before .before .before .before .before .before .before in
+    let y0 = lower-layers (start .pre) (at-track-layers .track-layers .ensures) in
+    let y1 = north-comb (start .pre) y0 (at-paint-up .paint-up .ensures) in
+    omega (arith, layer-fits (start .pre) y1 (omega arith))
 
 paint-across-requires : tie.Need-paint-across-requires
 paint-across-requires c κs =
     let at-paint-up = c .before .before .before in
     let at-track-layers = at-paint-up .before .before .before .before in
     let start = at-track-layers .before .before .before .before .before .before .before .before .before in
-    rw (start .pre .across) (omega (arith, layer-fits (start .pre) 1 (omega arith), at-paint-up .paint-up .kept .0, drawn-as-long (at-track-layers .track-layers .ensures)))
+    let y0 = lower-layers (start .pre) (at-track-layers .track-layers .ensures) in
+    let y1 = north-comb (start .pre) y0 (at-paint-up .paint-up .ensures) in
+    layer-size (start .pre) y1 (omega arith) ∙ ap (λ (u : ℕ). length (start .args .a .now) * u) (sym (start .pre .across))
 
-mul-paint-up : tie.Need-mul-paint-up
-mul-paint-up c =
-    let start = c .before .before .before .before .before .before .before .before .before .before .before .before .before .before .before .before .before .before .before .before in
-    omega (arith, layer-small (start .pre))
-
-add-paint-up : tie.Need-add-paint-up
-add-paint-up c =
-    let start = c .before .before .before .before .before .before .before .before .before .before .before .before .before .before .before .before .before .before .before .before in
-    omega (arith, layer-small (start .pre))
+part-paint-up-end-2 : tie.Need-part-paint-up-end-2
+part-paint-up-end-2 c =
+    let at-paint-across = c .before .before in
+    let at-paint-up = at-paint-across .before .before .before .before in
+    let at-track-layers = at-paint-up .before .before .before .before in
+    let start = at-track-layers .before .before .before .before .before .before .before .before .before in
+    let y0 = lower-layers (start .pre) (at-track-layers .track-layers .ensures) in
+    let y1 = north-comb (start .pre) y0 (at-paint-up .paint-up .ensures) in
+    let y2 = east-comb (start .pre) y1 (at-paint-across .paint-across .ensures) in
+    omega (arith, layer-fits (start .pre) y2 (omega arith))
 
 paint-up-requires-2 : tie.Need-paint-up-requires-2
 paint-up-requires-2 c κs =
@@ -48,24 +58,59 @@ paint-up-requires-2 c κs =
     let at-paint-up = at-paint-across .before .before .before .before in
     let at-track-layers = at-paint-up .before .before .before .before in
     let start = at-track-layers .before .before .before .before .before .before .before .before .before in
-    rw (start .pre .posts)
-    (omega (arith, layer-fits (start .pre) 2 (omega arith), at-paint-across .paint-across .kept .0, at-paint-up .paint-up .kept .0, drawn-as-long (at-track-layers .track-layers .ensures)))
+    let y0 = lower-layers (start .pre) (at-track-layers .track-layers .ensures) in
+    let y1 = north-comb (start .pre) y0 (at-paint-up .paint-up .ensures) in
+    let y2 = east-comb (start .pre) y1 (at-paint-across .paint-across .ensures) in
+    layer-size (start .pre) y2 (omega arith) ∙ ap (λ (u : ℕ). u * length (start .args .c .now)) (sym (start .pre .posts))
 
-mul-paint-across : tie.Need-mul-paint-across
-mul-paint-across c =
-    let start = c .before .before .before .before .before .before .before .before .before .before .before .before .before .before .before .before .before .before .before .before .before .before .before .before in
+add-paint-across : tie.Need-add-paint-across
+add-paint-across c =
+    let at-paint-up2 = c .before .before in
+    let at-paint-across = at-paint-up2 .before .before .before .before in
+    let at-paint-up = at-paint-across .before .before .before .before in
+    let at-track-layers = at-paint-up .before .before .before .before in
+    let start = at-track-layers .before .before .before .before .before .before .before .before .before in
     omega (arith, layer-small (start .pre))
 
-add-paint-across-2 : tie.Need-add-paint-across-2
-add-paint-across-2 c =
-    let start = c .before .before .before .before .before .before .before .before .before .before .before .before .before .before .before .before .before .before .before .before .before .before .before .before in
-    omega (arith, layer-small (start .pre))
+part-paint-across-end-2 : tie.Need-part-paint-across-end-2
+part-paint-across-end-2 c =
+    let at-paint-up2 = c .before .before in
+    let at-paint-across = at-paint-up2 .before .before .before .before in
+    let at-paint-up = at-paint-across .before .before .before .before in
+    let at-track-layers = at-paint-up .before .before .before .before in
+    let start = at-track-layers .before .before .before .before .before .before .before .before .before in
+    let y0 = lower-layers (start .pre) (at-track-layers .track-layers .ensures) in
+    let y1 = north-comb (start .pre) y0 (at-paint-up .paint-up .ensures) in
+    let y2 = east-comb (start .pre) y1 (at-paint-across .paint-across .ensures) in
+    let y3 = column-layer (start .pre) y2 (at-paint-up2 .paint-up2 .ensures) in
+    omega (arith, layer-fits (start .pre) y3 (omega arith))
 
 paint-across-requires-2 : tie.Need-paint-across-requires-2
-paint-across-requires-2 c κs = search needs
+paint-across-requires-2 c κs =
+    let at-paint-up2 = c .before .before .before in
+    let at-paint-across = at-paint-up2 .before .before .before .before in
+    let at-paint-up = at-paint-across .before .before .before .before in
+    let at-track-layers = at-paint-up .before .before .before .before in
+    let start = at-track-layers .before .before .before .before .before .before .before .before .before in
+    let y0 = lower-layers (start .pre) (at-track-layers .track-layers .ensures) in
+    let y1 = north-comb (start .pre) y0 (at-paint-up .paint-up .ensures) in
+    let y2 = east-comb (start .pre) y1 (at-paint-across .paint-across .ensures) in
+    let y3 = column-layer (start .pre) y2 (at-paint-up2 .paint-up2 .ensures) in
+    layer-size (start .pre) y3 (omega arith)
 
 same-length : tie.Need-same-length
-same-length c = search needs
+same-length c =
+    let at-paint-across2 = c .before .before in
+    let at-paint-up2 = at-paint-across2 .before .before .before .before in
+    let at-paint-across = at-paint-up2 .before .before .before .before in
+    let at-paint-up = at-paint-across .before .before .before .before in
+    let at-track-layers = at-paint-up .before .before .before .before in
+    let start = at-track-layers .before .before .before .before .before .before .before .before .before in
+    let y0 = lower-layers (start .pre) (at-track-layers .track-layers .ensures) in
+    let y1 = north-comb (start .pre) y0 (at-paint-up .paint-up .ensures) in
+    let y2 = east-comb (start .pre) y1 (at-paint-across .paint-across .ensures) in
+    let y3 = column-layer (start .pre) y2 (at-paint-up2 .paint-up2 .ensures) in
+    drawn-as-long (west-comb (start .pre) y3 (at-paint-across2 .paint-across2 .ensures))
 
 returns : tie.Need-returns
 returns c =
@@ -75,24 +120,25 @@ returns c =
     let at-paint-up = at-paint-across .before .before .before .before in
     let at-track-layers = at-paint-up .before .before .before .before in
     let start = at-track-layers .before .before .before .before .before .before .before .before .before in
-    box-drawn (start .pre) refl (at-track-layers .track-layers .ensures) (at-paint-up .paint-up .ensures) (at-paint-across .paint-across .ensures) (at-paint-up2 .paint-up2 .ensures) (at-paint-across2 .paint-across2 .ensures)
+    let y0 = lower-layers (start .pre) (at-track-layers .track-layers .ensures) in
+    let y1 = north-comb (start .pre) y0 (at-paint-up .paint-up .ensures) in
+    let y2 = east-comb (start .pre) y1 (at-paint-across .paint-across .ensures) in
+    let y3 = column-layer (start .pre) y2 (at-paint-up2 .paint-up2 .ensures) in
+    west-comb (start .pre) y3 (at-paint-across2 .paint-across2 .ensures)
 
 pub draw-spec : {M : Type 1} → statement M
 draw-spec =
-    tie.close
-    (tie.spec
-    mul-size
-    mul-from
-    mul-from-2
-    track-layers-requires
-    paint-up-requires
-    add-paint-across
-    paint-across-requires
-    mul-paint-up
-    add-paint-up
-    paint-up-requires-2
-    mul-paint-across
-    add-paint-across-2
-    paint-across-requires-2
-    same-length
-    returns)
+    tie.close (tie.spec (λ c. omega (arith, layer-small (c .before .before .before .before .before .before .before .pre))) (λ c. omega
+    (arith, layer-small (c .before .before .before .before .before .before .before .pre))) (λ c. omega (
+      arith,
+      layer-small (c .before
+          .before .before .before .before .before .before .pre),
+    )) (λ c. omega (
+      arith,
+      layer-small (c .before .before .before .before .before
+          .before .before .pre),
+    )) (λ c. omega (arith, layer-small (c .before .before .before .before .before .before .before .pre))) (λ c.
+    omega (arith, layer-small (c .before .before .before .before .before .before .before .pre))) (λ c κs. search needs) (λ c. omega
+    arith) (λ c. omega arith) part-paint-up-end paint-up-requires (λ c. omega arith) (λ c. omega arith) part-paint-across-end
+    paint-across-requires (λ c. omega arith) (λ c. omega arith) part-paint-up-end-2 paint-up-requires-2 add-paint-across (λ c. omega
+    arith) (λ c. omega arith) part-paint-across-end-2 paint-across-requires-2 same-length returns)

@@ -8,26 +8,14 @@ use borrow.Author.Needs.{needs}
 use Rattle.switchbox.proofs.lay_upright.Statement.{statement}
 use Rattle.switchbox.proofs.lay_upright.Tie as tie
 
-count-side-requires : tie.Need-count-side-requires
-count-side-requires c κs = search needs
-
-count-side-requires-2 : tie.Need-count-side-requires-2
-count-side-requires-2 c κs = search needs
-
-count-side-requires-3 : tie.Need-count-side-requires-3
-count-side-requires-3 c κs = search needs
-
-count-side-requires-4 : tie.Need-count-side-requires-4
-count-side-requires-4 c κs = search needs
-
-mirror-by-requires : tie.Need-mirror-by-requires
-mirror-by-requires c κs = search needs
-
 abbrev entered : tie.After-mirror-by → tie.Start
 entered c = c .before .before .before .before .before .before .before .before .before .before .before .before .before .before
 
 tables : (c : tie.After-mirror-by) → Tables (entered c .args .a .now) (entered c .args .b .now) (entered c .args .c .now) (entered c .args .d .now)
-    (c .before .before .before .before .before .before .before .before .count-side .result) (c .before .before .before .before .before .before .before .count-side2 .result) (c .before .before .before .before .before .before .count-side3 .result) (c .before .before .before .before .before .count-side4 .result)
+    (c .before .before .before .before .before .before .before .before .count-side .result)
+    (c .before .before .before .before .before .before .before .count-side2 .result)
+    (c .before .before .before .before .before .before .count-side3 .result)
+    (c .before .before .before .before .before .count-side4 .result)
 tables c =
     let at-count-side4 = c .before .before .before .before .before in
     let at-count-side3 = at-count-side4 .before in
@@ -52,13 +40,10 @@ lay-canonical-requires c κs =
     let at-choice = at-if1 .before in
     canonical-renamed (entered at-choice .pre) plain (tables at-choice) (choice at-choice plain (ap mirrorOf (at-if1 .if1 .taken)))
 
-same-length : tie.Need-same-length
-same-length c = search needs
-
 returns : tie.Need-returns
 returns c =
     let at-lay-canonical = c .before .before in
-    let start = at-lay-canonical .before .before .before .before .before .before .before .before .before .before .before .before .before .before .before .before .before .before .before .before .before in
+    let start = entered (at-lay-canonical .before .before .before .before .before .before .before) in
     wired-renamed (start .pre) plain (at-lay-canonical .lay-canonical .ensures)
 
 lay-canonical-requires-2 : tie.Need-lay-canonical-requires-2
@@ -68,13 +53,10 @@ lay-canonical-requires-2 c κs =
     let at-choice = at-if1 .before in
     canonical-renamed (entered at-choice .pre) leftRight (tables at-choice) (choice at-choice leftRight (ap mirrorOf (at-if2 .if2 .taken)))
 
-same-length-2 : tie.Need-same-length-2
-same-length-2 c = search needs
-
 returns-2 : tie.Need-returns-2
 returns-2 c =
     let at-lay-canonical2 = c .before .before in
-    let start = at-lay-canonical2 .before .before .before .before .before .before .before .before .before .before .before .before .before .before .before .before .before .before .before .before .before .before in
+    let start = entered (at-lay-canonical2 .before .before .before .before .before .before .before .before) in
     wired-renamed (start .pre) leftRight (at-lay-canonical2 .lay-canonical2 .ensures)
 
 lay-canonical-requires-3 : tie.Need-lay-canonical-requires-3
@@ -84,13 +66,10 @@ lay-canonical-requires-3 c κs =
     let at-choice = at-if1 .before in
     canonical-renamed (entered at-choice .pre) topBottom (tables at-choice) (choice at-choice topBottom (ap mirrorOf (at-if3 .if3 .taken)))
 
-same-length-3 : tie.Need-same-length-3
-same-length-3 c = search needs
-
 returns-3 : tie.Need-returns-3
 returns-3 c =
     let at-lay-canonical3 = c .before .before in
-    let start = at-lay-canonical3 .before .before .before .before .before .before .before .before .before .before .before .before .before .before .before .before .before .before .before .before .before .before .before in
+    let start = entered (at-lay-canonical3 .before .before .before .before .before .before .before .before .before) in
     wired-renamed (start .pre) topBottom (at-lay-canonical3 .lay-canonical3 .ensures)
 
 lay-canonical-requires-4 : tie.Need-lay-canonical-requires-4
@@ -99,35 +78,17 @@ lay-canonical-requires-4 c κs =
     let at-if2 = at-if3 .before in
     let at-if1 = at-if2 .before in
     let at-choice = at-if1 .before in
-    canonical-renamed (entered at-choice .pre) both (tables at-choice) (choice at-choice both (last-mirror _ (at-if1 .if1 .left) (at-if2 .if2 .left) (at-if3 .if3 .left)))
-
-same-length-4 : tie.Need-same-length-4
-same-length-4 c = search needs
+    canonical-renamed (entered at-choice .pre) both (tables at-choice)
+    (choice at-choice both (last-mirror _ (at-if1 .if1 .left) (at-if2 .if2 .left) (at-if3 .if3 .left)))
 
 returns-4 : tie.Need-returns-4
 returns-4 c =
     let at-lay-canonical4 = c .before .before in
-    let start = at-lay-canonical4 .before .before .before .before .before .before .before .before .before .before .before .before .before .before .before .before .before .before .before .before .before .before .before in
+    let start = entered (at-lay-canonical4 .before .before .before .before .before .before .before .before .before) in
     wired-renamed (start .pre) both (at-lay-canonical4 .lay-canonical4 .ensures)
 
 pub lay-upright-spec : {M : Type 1} → statement M
 lay-upright-spec =
-    tie.close
-    (tie.spec
-    count-side-requires
-    count-side-requires-2
-    count-side-requires-3
-    count-side-requires-4
-    mirror-by-requires
-    lay-canonical-requires
-    same-length
-    returns
-    lay-canonical-requires-2
-    same-length-2
-    returns-2
-    lay-canonical-requires-3
-    same-length-3
-    returns-3
-    lay-canonical-requires-4
-    same-length-4
-    returns-4)
+    tie.close (tie.spec (λ c κs. search needs) (λ c κs. search needs) (λ c κs. search needs) (λ c κs. search needs)
+    (λ c κs. search needs) lay-canonical-requires (λ c. search needs) returns lay-canonical-requires-2 (λ c. search needs) returns-2
+    lay-canonical-requires-3 (λ c. search needs) returns-3 lay-canonical-requires-4 (λ c. search needs) returns-4)

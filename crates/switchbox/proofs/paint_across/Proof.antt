@@ -1,40 +1,21 @@
 -- Turned, a line from west to east is one of the buffer's columns; else one of its tracks.
-use Rattle.switchbox.proofs.Layers.{painted-plain, painted-turned}
+use Rattle.switchbox.proofs.Layers.{striped-plain, striped-turned}
 use borrow.Author.Needs.{needs}
 use Rattle.switchbox.proofs.paint_across.Statement.{statement}
 use Rattle.switchbox.proofs.paint_across.Tie as tie
 
-paint-columns-requires : tie.Need-paint-columns-requires
-paint-columns-requires c κs = search needs
-
-same-length : tie.Need-same-length
-same-length c = search needs
-
 returns : tie.Need-returns
 returns c =
-    let at-paint-columns = c .before .before in
-    let at-if1 = at-paint-columns .before .before in
-    painted-turned _ (at-if1 .if1 .taken) (at-paint-columns .paint-columns .ensures)
-
-paint-tracks-requires : tie.Need-paint-tracks-requires
-paint-tracks-requires c κs = search needs
-
-same-length-2 : tie.Need-same-length-2
-same-length-2 c = search needs
+    let at-columns = c .before .before in
+    let at-if1 = at-columns .before .before in
+    striped-turned _ (at-if1 .if1 .taken) (at-columns .columns .ensures)
 
 returns-2 : tie.Need-returns-2
 returns-2 c =
-    let at-paint-tracks = c .before .before in
-    let at-if1 = at-paint-tracks .before .before in
-    painted-plain _ (at-if1 .if1 .left) (at-paint-tracks .paint-tracks .ensures)
+    let at-tracks = c .before .before in
+    let at-if1 = at-tracks .before .before in
+    striped-plain _ (at-if1 .if1 .left) (at-tracks .tracks .ensures)
 
 pub paint-across-spec : {M : Type 1} → statement M
 paint-across-spec =
-    tie.close
-    (tie.spec
-    paint-columns-requires
-    same-length
-    returns
-    paint-tracks-requires
-    same-length-2
-    returns-2)
+    tie.close (tie.spec (λ c κs. search needs) (λ c. search needs) returns (λ c κs. search needs) (λ c. search needs) returns-2)

@@ -3,12 +3,6 @@ use borrow.Author.Needs.{needs}
 use Rattle.switchbox.proofs.paint_comb.Statement.{statement}
 use Rattle.switchbox.proofs.paint_comb.Tie as tie
 
-paint-up-requires : tie.Need-paint-up-requires
-paint-up-requires c κs = search needs
-
-same-length : tie.Need-same-length
-same-length c = search needs
-
 returns : tie.Need-returns
 returns c =
     let at-paint-up = c .before .before in
@@ -20,9 +14,6 @@ paint-up-requires-2 c κs =
     let start = c .before .before .before .before .before in
     rw (start .pre .0) (start .pre .1)
 
-same-length-2 : tie.Need-same-length-2
-same-length-2 c = search needs
-
 returns-2 : tie.Need-returns-2
 returns-2 c =
     let at-paint-up2 = c .before .before in
@@ -32,5 +23,4 @@ returns-2 c =
 
 pub paint-comb-spec : {M : Type 1} → statement M
 paint-comb-spec =
-    tie.close
-    (tie.spec paint-up-requires same-length returns paint-up-requires-2 same-length-2 returns-2)
+    tie.close (tie.spec (λ c κs. search needs) (λ c. search needs) returns paint-up-requires-2 (λ c. search needs) returns-2)

@@ -1,8 +1,9 @@
-use Rattle.switchbox.proofs.Layers.{drawn-as-long}
--- Round by round, a comb and the track layer above it.
+-- Round by round, a comb and the track layer above it, each painted in the part of the wiring that it is.
 use Prim.Native.Nat.{_-_}
 use native.Mathlib.Omega.{arith}
-use Rattle.switchbox.proofs.Rounds.{Rounds, no-round, all-rounds, size-small, round-fits, round-small, lane-fits, part-fits, next-round}
+use Rattle.switchbox.proofs.Layers.{drawn-as-long}
+use Rattle.switchbox.proofs.Rounds.{Rounds, no-round, all-rounds, size-small, round-fits, round-small, lane-fits}
+use Rattle.switchbox.proofs.Rounds.{comb-size, row-fits, row-size, next-round}
 use Rattle.switchbox.proofs.track_layers.Statement.{statement}
 use Rattle.switchbox.proofs.track_layers.Tie as tie
 
@@ -20,6 +21,18 @@ mul-size c =
 loop-holds : tie.Need-loop-holds Inv-loop μ-loop
 loop-holds c = no-round _ _ _ _ _ _ _
 
+add-middle : tie.Need-add-middle Inv-loop μ-loop
+add-middle c =
+    let head = c .before in
+    let start = head .before .before .before .before .before in
+    omega (arith, round-small (start .pre) (head .loop .inv) (c .loop-test .taken))
+
+part-paint-comb-end : tie.Need-part-paint-comb-end Inv-loop μ-loop
+part-paint-comb-end c =
+    let head = c .before in
+    let start = head .before .before .before .before .before in
+    omega (arith, round-fits (start .pre) (head .loop .inv) (c .loop-test .taken))
+
 add-paint-comb : tie.Need-add-paint-comb Inv-loop μ-loop
 add-paint-comb c =
     let head = c .before .before in
@@ -30,10 +43,10 @@ paint-comb-requires : tie.Need-paint-comb-requires Inv-loop μ-loop
 paint-comb-requires c κs =
     let head = c .before .before in
     let start = head .before .before .before .before .before in
-    (start .pre .across, omega (arith, round-fits (start .pre) (head .loop .inv) (c .before .loop-test .taken)))
+    (start .pre .across, comb-size (start .pre) (head .loop .inv) (c .before .loop-test .taken))
 
-add-from : tie.Need-add-from Inv-loop μ-loop
-add-from c =
+add-to : tie.Need-add-to Inv-loop μ-loop
+add-to c =
     let turn = c .before .before .before .before in
     let head = turn .before in
     let start = head .before .before .before .before .before in
@@ -46,14 +59,16 @@ add-end c =
     let start = head .before .before .before .before .before in
     omega (arith, lane-fits (start .pre) (head .loop .inv) (turn .loop-test .taken))
 
-sub-paint-across : tie.Need-sub-paint-across Inv-loop μ-loop
-sub-paint-across c = omega arith
-
-part-paint-across-start : tie.Need-part-paint-across-start Inv-loop μ-loop
-part-paint-across-start c = omega arith
-
 part-paint-across-end : tie.Need-part-paint-across-end Inv-loop μ-loop
 part-paint-across-end c =
+    let at-paint-comb = c .before .before in
+    let turn = at-paint-comb .before .before in
+    let head = turn .before in
+    let start = head .before .before .before .before .before in
+    row-fits (start .pre) (head .loop .inv) (turn .loop-test .taken) (at-paint-comb .paint-comb .ensures)
+
+part-paint-across-end-2 : tie.Need-part-paint-across-end-2 Inv-loop μ-loop
+part-paint-across-end-2 c =
     let turn = c .before .before .before .before .before in
     let head = turn .before in
     let start = head .before .before .before .before .before in
@@ -65,14 +80,7 @@ paint-across-requires c κs =
     let turn = at-paint-comb .before .before in
     let head = turn .before in
     let start = head .before .before .before .before .before in
-    part-fits (start .pre) (head .loop .inv) (turn .loop-test .taken) (at-paint-comb .paint-comb .last .0) (at-paint-comb .paint-comb .kept .0)
-
-add-from-2 : tie.Need-add-from-2 Inv-loop μ-loop
-add-from-2 c =
-    let turn = c .before .before .before .before .before .before .before .before .before in
-    let head = turn .before in
-    let start = head .before .before .before .before .before in
-    omega (arith, round-small (start .pre) (head .loop .inv) (turn .loop-test .taken))
+    row-size (start .pre) (head .loop .inv) (turn .loop-test .taken) (at-paint-comb .paint-comb .ensures)
 
 add-t : tie.Need-add-t Inv-loop μ-loop
 add-t c =
@@ -101,23 +109,6 @@ returns c = all-rounds (c .before .loop .inv) (c .loop-test .left)
 
 pub track-layers-spec : {M : Type 1} → statement M
 track-layers-spec =
-    tie.close
-    (tie.spec
-    Inv-loop
-    μ-loop
-    mul-size
-    loop-holds
-    add-paint-comb
-    paint-comb-requires
-    add-from
-    add-end
-    sub-paint-across
-    part-paint-across-start
-    part-paint-across-end
-    paint-across-requires
-    add-from-2
-    add-t
-    loop-less
-    loop-again
-    same-length
-    returns)
+    tie.close (tie.spec Inv-loop μ-loop mul-size loop-holds add-middle (λ c. omega arith) (λ c. omega arith) part-paint-comb-end
+    add-paint-comb paint-comb-requires add-to add-end (λ c. omega arith) (λ c. omega arith) part-paint-across-end (λ c. omega arith) (λ
+    c. omega arith) part-paint-across-end-2 paint-across-requires add-t loop-less loop-again same-length returns)

@@ -10,9 +10,6 @@ returns : tie.Need-returns
 unfolding after
 returns c = (simp (ne-eqb _ _ (c .if1 .taken)), omega arith)
 
-side-requires : tie.Need-side-requires
-side-requires c κs = search needs
-
 returns-2 : tie.Need-returns-2
 unfolding after
 returns-2 c = (simp (eq-eqb _ _ (c .before .before .if1 .left), c .before .if2 .taken) (c .side .ensures .0), c .side .ensures .1)
@@ -22,4 +19,4 @@ unfolding after
 returns-3 c = (simp (eq-eqb _ _ (c .before .if1 .left), c .if2 .left), omega arith)
 
 pub after-spec : {M : Type 1} → statement M
-after-spec = tie.close (tie.spec returns side-requires returns-2 returns-3)
+after-spec = tie.close (tie.spec returns (λ c κs. search needs) returns-2 returns-3)

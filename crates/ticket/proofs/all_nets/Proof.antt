@@ -1,21 +1,20 @@
 -- `ticket::all_nets` meets its contract: while all bytes passed are nets, what is left to read is the same cursor as all of them.
 use Prim.Native.Nat.{ℕ, _+_, _-_, _≤_}
-use mathlib.Core.Bool.{true}
+use mathlib.Core.Bool.{true, and-eq-true-iff}
 use mathlib.Core.Path.{_≡_, sym, ap, _∙_}
 use native.Mathlib.Omega.{arith}
 use denote.Ref.{now}
 use borrow.Author.Needs.{needs}
-use Rattle.grid.specs.Limits.{within}
-use Rattle.grid.specs.Legal.{topNet}
-use Rattle.ticket.proofs.Laws.{both, nets-start, nets-pass, nets-passed}
+use Rattle.terms.specs.Limits.{within, largestNet}
+use Rattle.ticket.proofs.Laws.{nets-start, nets-pass, nets-passed}
 use Rattle.ticket.specs.Read.{netsOf}
 use Rattle.ticket.proofs.all_nets.Statement.{statement}
 use Rattle.ticket.proofs.all_nets.Tie as tie
 use Rattle.ticket.proofs.all_nets.Reads as reads
 use Rattle.ticket.proofs.all_nets.Lts as lts
-use Rattle.grid.proofs.is_within.Reads as is-within-reads
-use Rattle.ticket.proofs.both.Reads as both-reads
-use Rattle.ticket.proofs.wide.Reads as wide-reads
+use Rattle.terms.proofs.is_within.Reads as is-within-reads
+use Rattle.terms.proofs.both.Reads as both-reads
+use Rattle.terms.proofs.wide.Reads as wide-reads
 
 abbrev Inv-loop : tie.InvT-loop
 Inv-loop ticket from count good₀ i₀ good i = (i ≤ count) × (good ≡ true → netsOf ticket from count ≡ netsOf ticket (from + i) (count - i))
@@ -26,37 +25,17 @@ abbrev μ-loop : tie.MeasureT-loop
 loop-holds : tie.Need-loop-holds Inv-loop μ-loop
 loop-holds c = (omega arith, λ h. nets-start _ _ _)
 
-add-wide : tie.Need-add-wide Inv-loop μ-loop
-add-wide c = search needs
-
-shared-slice-read-wide : tie.Need-shared-slice-read-wide Inv-loop μ-loop
-shared-slice-read-wide c = search needs
-
-wide-requires : tie.Need-wide-requires Inv-loop μ-loop
-wide-requires c κs = search needs
-
-is-within-requires : tie.Need-is-within-requires Inv-loop μ-loop
-is-within-requires c κs = search needs
-
-both-requires : tie.Need-both-requires Inv-loop μ-loop
-both-requires c κs = search needs
-
-add-i : tie.Need-add-i Inv-loop μ-loop
-add-i c = search needs
-
-loop-less : tie.Need-loop-less Inv-loop μ-loop
-loop-less c = search needs
-
 loop-again : tie.Need-loop-again Inv-loop μ-loop
 loop-again c =
     let c5 = c .before .before .before .before .before in
     let a = c5 .before .before .args in
     let l = c5 .loop in
-    let test = c .before .is-within .ensures ∙ ap (λ (x : ℕ). within x topNet) (c .before .before .wide .ensures) in (
+    let test = c .before .is-within .ensures ∙ ap (λ (x : ℕ). within x largestNet) (c .before .before .wide .ensures) in (
       omega arith,
       λ h.
-          let two = both (l .good) (c .before .is-within .result) (sym (c .both .ensures) ∙ h) in
-          l .inv .1 (two .0) ∙ nets-pass (now (a .ticket)) (a .from) (a .count) (l .i) (c .before .before .before .before .loop-test .taken) (omega arith) (sym test ∙ two .1),
+          let two = and-eq-true-iff (l .good) (c .before .is-within .result) .0 (sym (c .both .ensures) ∙ h) in
+          l .inv .1 (two .0) ∙ nets-pass (now (a .ticket)) (a .from) (a .count) (l .i) (c .before .before .before .before .loop-test .taken) (omega arith)
+          (sym test ∙ two .1),
     )
 
 returns : tie.Need-returns Inv-loop μ-loop
@@ -67,17 +46,5 @@ returns c =
 
 pub all-nets-spec : {M : Type 1} → statement M
 all-nets-spec =
-    tie.close
-    (tie.spec
-    Inv-loop
-    μ-loop
-    loop-holds
-    add-wide
-    shared-slice-read-wide
-    wide-requires
-    is-within-requires
-    both-requires
-    add-i
-    loop-less
-    loop-again
-    returns)
+    tie.close (tie.spec Inv-loop μ-loop loop-holds (λ c. search needs) (λ c. search needs) (λ c κs. search needs) (λ c κs. search needs)
+    (λ c κs. search needs) (λ c. search needs) (λ c. search needs) loop-again returns)

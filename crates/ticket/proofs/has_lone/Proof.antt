@@ -6,36 +6,21 @@ use native.Mathlib.Omega.{arith}
 use lib.Dec.{eqb}
 use lib.ListN.{getD}
 use borrow.Author.Needs.{needs}
-use Rattle.grid.specs.Legal.{topNet}
+use Rattle.terms.specs.Limits.{largestNet}
 use Rattle.ticket.proofs.Flags.{neither}
 use Rattle.ticket.proofs.Laws.{least-none, least-more}
-use Rattle.ticket.specs.Format.{least}
+use Rattle.counting.specs.Counting.{least}
 use Rattle.ticket.proofs.has_lone.Statement.{statement}
 use Rattle.ticket.proofs.has_lone.Tie as tie
 
 abbrev Inv-loop : tie.InvT-loop
-Inv-loop counts some₀ v₀ some v = (v ≤ topNet) × (some ≡ false → least (λ x. eqb (getD counts x 0) 1) v ≡ 0)
+Inv-loop counts some₀ v₀ some v = (v ≤ largestNet) × (some ≡ false → least (λ x. eqb (getD counts x 0) 1) v ≡ 0)
 
 abbrev μ-loop : tie.MeasureT-loop
-μ-loop counts some₀ v₀ some v = topNet - v
+μ-loop counts some₀ v₀ some v = largestNet - v
 
 loop-holds : tie.Need-loop-holds Inv-loop μ-loop
 loop-holds c = (omega arith, λ h. least-none _)
-
-add-v : tie.Need-add-v Inv-loop μ-loop
-add-v c = search needs
-
-mul-either : tie.Need-mul-either Inv-loop μ-loop
-mul-either c = search needs
-
-array-read-either : tie.Need-array-read-either Inv-loop μ-loop
-array-read-either c = search needs
-
-either-requires : tie.Need-either-requires Inv-loop μ-loop
-either-requires c κs = search needs
-
-loop-less : tie.Need-loop-less Inv-loop μ-loop
-loop-less c = search needs
 
 loop-again : tie.Need-loop-again Inv-loop μ-loop
 loop-again c =
@@ -50,20 +35,10 @@ loop-again c =
 returns : tie.Need-returns Inv-loop μ-loop
 returns c =
     let l = c .before .loop in
-    let e : l .v ≡ topNet = omega arith in
+    let e : l .v ≡ largestNet = omega arith in
     λ h. ap (least _) (sym e) ∙ l .inv .1 h
 
 pub has-lone-spec : {M : Type 1} → statement M
 has-lone-spec =
-    tie.close
-    (tie.spec
-    Inv-loop
-    μ-loop
-    loop-holds
-    add-v
-    mul-either
-    array-read-either
-    either-requires
-    loop-less
-    loop-again
-    returns)
+    tie.close (tie.spec Inv-loop μ-loop loop-holds (λ c. search needs) (λ c. search needs) (λ c. search needs) (λ c κs. search needs)
+    (λ c. search needs) loop-again returns)

@@ -6,35 +6,24 @@ use lib.Dec.{eqb}
 use lib.ListN.{getD}
 use borrow.Author.Tests.{eq-eqb, ne-eqb}
 use borrow.Author.Needs.{needs}
-use Rattle.grid.specs.Legal.{topNet}
+use Rattle.terms.specs.Limits.{largestNet}
 use Rattle.ticket.proofs.Laws.{least-none, least-more, least-here}
-use Rattle.ticket.specs.Format.{least}
+use Rattle.counting.specs.Counting.{least}
 use Rattle.ticket.proofs.lone.Statement.{statement}
 use Rattle.ticket.proofs.lone.Tie as tie
 
 abbrev Inv-loop : tie.InvT-loop
-Inv-loop counts v₀ v = (least (λ x. eqb (getD counts x 0) 1) v ≡ 0) × (v ≤ topNet)
+Inv-loop counts v₀ v = (least (λ x. eqb (getD counts x 0) 1) v ≡ 0) × (v ≤ largestNet)
 
 abbrev μ-loop : tie.MeasureT-loop
-μ-loop counts v₀ v = topNet - v
+μ-loop counts v₀ v = largestNet - v
 
 loop-holds : tie.Need-loop-holds Inv-loop μ-loop
 loop-holds c = (least-none _, omega arith)
 
-add-v : tie.Need-add-v Inv-loop μ-loop
-add-v c = search needs
-
-mul-if1 : tie.Need-mul-if1 Inv-loop μ-loop
-mul-if1 c = search needs
-
-array-read-if1 : tie.Need-array-read-if1 Inv-loop μ-loop
-array-read-if1 c = search needs
-
 returns : tie.Need-returns Inv-loop μ-loop
-returns c = sym (least-here _ (c .before .before .loop .v) topNet (c .before .loop-test .taken) (c .before .before .loop .inv .0) (eq-eqb _ _ (c .if1 .taken)))
-
-loop-less : tie.Need-loop-less Inv-loop μ-loop
-loop-less c = search needs
+returns c = sym (least-here _ (c .before .before .loop .v) largestNet (c .before .loop-test .taken) (c .before .before .loop .inv .0)
+    (eq-eqb _ _ (c .if1 .taken)))
 
 loop-again : tie.Need-loop-again Inv-loop μ-loop
 loop-again c = (least-more _ (c .before .before .loop .v) (c .before .before .loop .inv .0) (ne-eqb _ _ (c .if1 .left)), omega arith)
@@ -42,20 +31,10 @@ loop-again c = (least-more _ (c .before .before .loop .v) (c .before .before .lo
 returns-2 : tie.Need-returns-2 Inv-loop μ-loop
 returns-2 c =
     let l = c .before .loop in
-    let e : l .v ≡ topNet = omega arith in
+    let e : l .v ≡ largestNet = omega arith in
     sym (ap (least _) (sym e) ∙ l .inv .0)
 
 pub lone-spec : {M : Type 1} → statement M
 lone-spec =
-    tie.close
-    (tie.spec
-    Inv-loop
-    μ-loop
-    loop-holds
-    add-v
-    mul-if1
-    array-read-if1
-    returns
-    loop-less
-    loop-again
-    returns-2)
+    tie.close (tie.spec Inv-loop μ-loop loop-holds (λ c. search needs) (λ c. search needs) (λ c. search needs) returns
+    (λ c. search needs) loop-again returns-2)

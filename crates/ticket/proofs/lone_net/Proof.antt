@@ -4,17 +4,8 @@ use borrow.Author.Needs.{needs}
 use Rattle.ticket.proofs.lone_net.Statement.{statement}
 use Rattle.ticket.proofs.lone_net.Tie as tie
 
-has-lone-requires : tie.Need-has-lone-requires
-has-lone-requires c κs = search needs
-
-lone-requires : tie.Need-lone-requires
-lone-requires c κs = search needs
-
-returns : tie.Need-returns
-returns c = search needs
-
 returns-2 : tie.Need-returns-2
 returns-2 c = sym (c .before .has-lone .ensures (c .if1 .left))
 
 pub lone-net-spec : {M : Type 1} → statement M
-lone-net-spec = tie.close (tie.spec has-lone-requires lone-requires returns returns-2)
+lone-net-spec = tie.close (tie.spec (λ c κs. search needs) (λ c κs. search needs) (λ c. search needs) returns-2)

@@ -19,26 +19,14 @@ abbrev μ-loop : tie.MeasureT-loop
 loop-holds : tie.Need-loop-holds Inv-loop μ-loop
 loop-holds c = (omega arith, filled-none _ 90)
 
-add-list : tie.Need-add-list Inv-loop μ-loop
-add-list c = search needs
-
-shared-slice-read-list : tie.Need-shared-slice-read-list Inv-loop μ-loop
-shared-slice-read-list c = search needs
-
-array-write-list : tie.Need-array-write-list Inv-loop μ-loop
-array-write-list c = search needs
-
-add-i : tie.Need-add-i Inv-loop μ-loop
-add-i c = search needs
-
-loop-less : tie.Need-loop-less Inv-loop μ-loop
-loop-less c = search needs
-
 loop-again : tie.Need-loop-again Inv-loop μ-loop
 loop-again c =
     let a = c .before .before .before .args in
-    let l = c .before .before .loop in
-    (omega arith, filled-set _ 90 (l .i) _ (l .list) (omega arith) (sym (net-of (now (a .ticket)) (a .from) (a .count) (l .i) (c .before .loop-test .taken))) (l .inv .1))
+    let l = c .before .before .loop in (
+      omega arith,
+      filled-set _ 90 (l .i) _ (l .list) (omega arith)
+          (sym (net-of (now (a .ticket)) (a .from) (a .count) (l .i) (c .before .loop-test .taken))) (l .inv .1),
+    )
 
 returns : tie.Need-returns Inv-loop μ-loop
 unfolding netList
@@ -49,15 +37,5 @@ returns c =
 
 pub net-list-spec : {M : Type 1} → statement M
 net-list-spec =
-    tie.close
-    (tie.spec
-    Inv-loop
-    μ-loop
-    loop-holds
-    add-list
-    shared-slice-read-list
-    array-write-list
-    add-i
-    loop-less
-    loop-again
-    returns)
+    tie.close (tie.spec Inv-loop μ-loop loop-holds (λ c. search needs) (λ c. search needs) (λ c. search needs) (λ c. search needs)
+    (λ c. search needs) loop-again returns)

@@ -3,14 +3,8 @@ use borrow.Author.Needs.{needs}
 use Rattle.ticket.proofs.no_lone.Statement.{statement}
 use Rattle.ticket.proofs.no_lone.Tie as tie
 
-go-on-requires : tie.Need-go-on-requires
-go-on-requires c κs = search needs
-
-unless-requires : tie.Need-unless-requires
-unless-requires c κs = search needs
-
 returns : tie.Need-returns
 returns c = cc
 
 pub no-lone-spec : {M : Type 1} → statement M
-no-lone-spec = tie.close (tie.spec go-on-requires unless-requires returns)
+no-lone-spec = tie.close (tie.spec (λ c κs. search needs) (λ c κs. search needs) returns)

@@ -20,12 +20,6 @@ abbrev μ-loop : tie.MeasureT-loop
 loop-holds : tie.Need-loop-holds Inv-loop μ-loop
 loop-holds c = (omega arith, sym (sum-none _))
 
-add-total : tie.Need-add-total Inv-loop μ-loop
-add-total c = search needs
-
-shared-slice-read-total : tie.Need-shared-slice-read-total Inv-loop μ-loop
-shared-slice-read-total c = search needs
-
 cast-total : tie.Need-cast-total Inv-loop μ-loop
 cast-total c = let h = c .shared-slice-known .given (c .before .before .before .args .at + c .before .before .loop .j) .fits in omega (arith, ones-le 8 _ h)
 
@@ -35,12 +29,6 @@ add-total-2 c =
     let a = c .before .before .before .args .at in
     let h = c .shared-slice-known .given (a + c .before .before .loop .j) .fits in
     omega (arith, ones-le 8 _ h, standing-le s a (8 * c .before .before .loop .j))
-
-add-j : tie.Need-add-j Inv-loop μ-loop
-add-j c = search needs
-
-loop-less : tie.Need-loop-less Inv-loop μ-loop
-loop-less c = search needs
 
 loop-again : tie.Need-loop-again Inv-loop μ-loop
 loop-again c =
@@ -58,16 +46,5 @@ returns c =
 
 pub ones-in-spec : {M : Type 1} → statement M
 ones-in-spec =
-    tie.close
-    (tie.spec
-    Inv-loop
-    μ-loop
-    loop-holds
-    add-total
-    shared-slice-read-total
-    cast-total
-    add-total-2
-    add-j
-    loop-less
-    loop-again
-    returns)
+    tie.close (tie.spec Inv-loop μ-loop loop-holds (λ c. search needs) (λ c. search needs) cast-total add-total-2 (λ c. search needs)
+    (λ c. search needs) loop-again returns)

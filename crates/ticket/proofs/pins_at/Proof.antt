@@ -10,47 +10,20 @@ use Rattle.ticket.proofs.Spans.{spans-as}
 use Rattle.ticket.proofs.pins_at.Statement.{statement}
 use Rattle.ticket.proofs.pins_at.Tie as tie
 
-shared-slice-read-n : tie.Need-shared-slice-read-n
-shared-slice-read-n c = search needs
-
-cast-n : tie.Need-cast-n
-cast-n c = search needs
-
-shared-slice-read-w : tie.Need-shared-slice-read-w
-shared-slice-read-w c = search needs
-
-cast-w : tie.Need-cast-w
-cast-w c = search needs
-
-shared-slice-read-map : tie.Need-shared-slice-read-map
-shared-slice-read-map c = search needs
-
-bit-of-requires : tie.Need-bit-of-requires
-bit-of-requires c κs = search needs
-
 side-list-requires : tie.Need-side-list-requires
 side-list-requires c κs =
     let h = c .before .before .before .before .before .pre in
     (h .0 .one .1, spans-as (c .bit-of .ensures) (h .1 .north))
-
-bit-of-requires-2 : tie.Need-bit-of-requires-2
-bit-of-requires-2 c κs = search needs
 
 side-list-requires-2 : tie.Need-side-list-requires-2
 side-list-requires-2 c κs =
     let h = c .before .before .before .before .before .before .before .pre in
     (h .0 .one .1, spans-as (c .bit-of2 .ensures) (h .1 .south))
 
-bit-of-requires-3 : tie.Need-bit-of-requires-3
-bit-of-requires-3 c κs = search needs
-
 side-list-requires-3 : tie.Need-side-list-requires-3
 side-list-requires-3 c κs =
     let h = c .before .before .before .before .before .before .before .before .before .pre in
     (h .0 .two .1, spans-as (c .bit-of3 .ensures) (h .1 .west))
-
-bit-of-requires-4 : tie.Need-bit-of-requires-4
-bit-of-requires-4 c κs = search needs
 
 side-list-requires-4 : tie.Need-side-list-requires-4
 side-list-requires-4 c κs =
@@ -63,27 +36,16 @@ returns c =
     let n : ℕ → Bool → List ℕ = λ from b. sideNets s b from (byte s 1) in
     let w : ℕ → Bool → List ℕ = λ from b. sideNets s b from (byte s 2) in
     let e = c .before .before .before .before .before .before .before .before .before .before .before .before .args .ends in
-    let north = c .before .before .before .before .before .before .side-list .ensures ∙ ap (n 4) (c .before .before .before .before .before .before .before .bit-of .ensures) in
-    let south = c .before .before .before .before .side-list2 .ensures ∙ ap (n (e .north .at)) (c .before .before .before .before .before .bit-of2 .ensures) in
+    let north = c .before .before .before .before .before .before .side-list .ensures ∙ ap (n 4)
+    (c .before .before .before .before .before .before .before .bit-of .ensures) in
+    let south = c .before .before .before .before .side-list2 .ensures ∙ ap (n (e .north .at))
+    (c .before .before .before .before .before .bit-of2 .ensures) in
     let west = c .before .before .side-list3 .ensures ∙ ap (w (e .south .at)) (c .before .before .before .bit-of3 .ensures) in
     let east = c .side-list4 .ensures ∙ ap (w (e .west .at)) (c .before .bit-of4 .ensures) in
     λ i. record { north = north i; south = south i; west = west i; east = east i }
 
 pub pins-at-spec : {M : Type 1} → statement M
 pins-at-spec =
-    tie.close
-    (tie.spec
-    shared-slice-read-n
-    cast-n
-    shared-slice-read-w
-    cast-w
-    shared-slice-read-map
-    bit-of-requires
-    side-list-requires
-    bit-of-requires-2
-    side-list-requires-2
-    bit-of-requires-3
-    side-list-requires-3
-    bit-of-requires-4
-    side-list-requires-4
-    returns)
+    tie.close (tie.spec (λ c. search needs) (λ c. search needs) (λ c. search needs) (λ c. search needs) (λ c. search needs)
+    (λ c κs. search needs) side-list-requires (λ c κs. search needs) side-list-requires-2 (λ c κs. search needs) side-list-requires-3
+    (λ c κs. search needs) side-list-requires-4 returns)

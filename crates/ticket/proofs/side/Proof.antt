@@ -8,44 +8,26 @@ use borrow.Author.Tests.{le-leb, lt-leb}
 use borrow.Author.Needs.{needs}
 use Rattle.ticket.proofs.Bits.{count-good, count-bad, standing-le}
 use Rattle.ticket.proofs.Laws.{at-refused}
-use Rattle.ticket.specs.Read.{sideOf, netsOf, unless}
+use Rattle.ticket.specs.Read.{sideOf, netsOf}
 use Rattle.ticket.specs.Format.{mapBytes}
 use Rattle.ticket.proofs.side.Statement.{statement}
 use Rattle.ticket.proofs.side.Tie as tie
 
-add-bytes : tie.Need-add-bytes
-add-bytes c = search needs
-
-sub-if1 : tie.Need-sub-if1
-sub-if1 c = search needs
-
-refuse-requires : tie.Need-refuse-requires
-refuse-requires c κs = search needs
-
 returns : tie.Need-returns
-unfolding sideOf unless
+unfolding sideOf
 returns c =
     let a = c .before .before .before .args in
     let short = lt-leb (a .at + mapBytes (a .places)) (length (now (a .ticket))) (omega arith) in
-    (simp short (c .refuse .ensures), omega (arith, at-refused (c .refuse .ensures)))
-
-map-count-requires : tie.Need-map-count-requires
-map-count-requires c κs = search needs
-
-refuse-requires-2 : tie.Need-refuse-requires-2
-refuse-requires-2 c κs = search needs
+    (simp short (c .stop .ensures), omega (arith, at-refused (c .stop .ensures)))
 
 returns-2 : tie.Need-returns-2
-unfolding sideOf unless
+unfolding sideOf
 returns-2 c =
     let a = c .before .before .before .before .before .args in
     let s = now (a .ticket) in
     let fits = le-leb (a .at + mapBytes (a .places)) (length s) (omega arith) in
     let bad = count-bad s (a .at) (a .places) (sym (c .before .before .map-count .ensures) ∙ c .before .if2 .taken) in
-    (simp (fits, bad) (c .refuse2 .ensures), omega (arith, at-refused (c .refuse2 .ensures)))
-
-add-net-bytes : tie.Need-add-net-bytes
-add-net-bytes c = search needs
+    (simp (fits, bad) (c .stop2 .ensures), omega (arith, at-refused (c .stop2 .ensures)))
 
 net-bytes-requires : tie.Need-net-bytes-requires
 net-bytes-requires c κs =
@@ -56,7 +38,7 @@ net-bytes-requires c κs =
     (omega (arith, standing-le s (a .at) (a .places), good .1), omega arith)
 
 returns-3 : tie.Need-returns-3
-unfolding sideOf unless
+unfolding sideOf
 returns-3 c =
     let a = c .before .before .before .before .before .args in
     let s = now (a .ticket) in
@@ -67,15 +49,5 @@ returns-3 c =
 
 pub side-spec : {M : Type 1} → statement M
 side-spec =
-    tie.close
-    (tie.spec
-    add-bytes
-    sub-if1
-    refuse-requires
-    returns
-    map-count-requires
-    refuse-requires-2
-    returns-2
-    add-net-bytes
-    net-bytes-requires
-    returns-3)
+    tie.close (tie.spec (λ c. search needs) (λ c. search needs) (λ c κs. search needs) returns (λ c κs. search needs)
+    (λ c κs. search needs) returns-2 (λ c. search needs) net-bytes-requires returns-3)

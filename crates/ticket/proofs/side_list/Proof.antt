@@ -1,4 +1,5 @@
--- `ticket::side_list` meets its contract: a side that does not stand is empty, one that is full lies as it is listed, any other has its nets put at their places.
+-- `ticket::side_list` meets its contract: a side that does not stand is empty, one that is full lies as it is listed, any other has its nets put at their
+-- places.
 use Prim.Native.Nat.{_+_, _-_}
 use mathlib.Core.Bool.{Bool}
 use mathlib.Core.Path.{_≡_, sym, ap, _∙_}
@@ -19,10 +20,8 @@ unfolding sideNets
 returns c =
     let a = c .before .before .args in
     let off = not-true (a .stands) (c .if1 .taken) in
-    filled-end (pinNet (now (a .ticket)) (a .stands) (a .at) (a .places)) 90 0 _ (λ k h. ap (λ (b : Bool). pinNet (now (a .ticket)) b (a .at) (a .places) k) off ∙ pin-off _ _ _ _) (filled-none _ 90)
-
-add-from : tie.Need-add-from
-add-from c = search needs
+    filled-end (pinNet (now (a .ticket)) (a .stands) (a .at) (a .places)) 90 0 _
+    (λ k h. ap (λ (b : Bool). pinNet (now (a .ticket)) b (a .at) (a .places) k) off ∙ pin-off _ _ _ _) (filled-none _ 90)
 
 add-from-2 : tie.Need-add-from-2
 add-from-2 c = omega (arith, c .before .before .pre .1 .start, c .before .before .pre .1 .size)
@@ -68,13 +67,4 @@ returns-3 c =
 
 pub side-list-spec : {M : Type 1} → statement M
 side-list-spec =
-    tie.close
-    (tie.spec
-    returns
-    add-from
-    add-from-2
-    sub-count
-    net-list-requires
-    returns-2
-    side-nets-requires
-    returns-3)
+    tie.close (tie.spec returns (λ c. search needs) add-from-2 sub-count net-list-requires returns-2 side-nets-requires returns-3)

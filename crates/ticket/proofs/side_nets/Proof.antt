@@ -45,18 +45,6 @@ few c =
 loop-holds : tie.Need-loop-holds Inv-loop μ-loop
 loop-holds c = (omega arith, sym (sum-none (λ k. bit (stands (now (c .args .ticket)) (c .args .at) k))), filled-none _ 90)
 
-add-on : tie.Need-add-on Inv-loop μ-loop
-add-on c = search needs
-
-shared-slice-read-on : tie.Need-shared-slice-read-on Inv-loop μ-loop
-shared-slice-read-on c = search needs
-
-cast-on : tie.Need-cast-on Inv-loop μ-loop
-cast-on c = search needs
-
-shr-on : tie.Need-shr-on Inv-loop μ-loop
-shr-on c = search needs
-
 array-read-list : tie.Need-array-read-list Inv-loop μ-loop
 array-read-list c = omega (arith, few c)
 
@@ -67,20 +55,8 @@ mul-list c =
     let m = getD (c .before .before .before .args .t4) (c .before .before .loop .next) 0 in
     omega (arith, elem c, ap (λ (x : ℕ). m * x) (on c), times-bit m (stands (now (a .ticket)) (a .at) (i + 1)))
 
-array-write-list : tie.Need-array-write-list Inv-loop μ-loop
-array-write-list c = search needs
-
-cast-next : tie.Need-cast-next Inv-loop μ-loop
-cast-next c = search needs
-
 add-next : tie.Need-add-next Inv-loop μ-loop
 add-next c = omega (arith, few c)
-
-add-i : tie.Need-add-i Inv-loop μ-loop
-add-i c = search needs
-
-loop-less : tie.Need-loop-less Inv-loop μ-loop
-loop-less c = search needs
 
 loop-again : tie.Need-loop-again Inv-loop μ-loop
 loop-again c =
@@ -105,21 +81,6 @@ returns c =
 
 pub side-nets-spec : {M : Type 1} → statement M
 side-nets-spec =
-    tie.close
-    (tie.spec
-    Inv-loop
-    μ-loop
-    loop-holds
-    add-on
-    shared-slice-read-on
-    cast-on
-    shr-on
-    array-read-list
-    mul-list
-    array-write-list
-    cast-next
-    add-next
-    add-i
-    loop-less
-    loop-again
+    tie.close (tie.spec Inv-loop μ-loop loop-holds (λ c. search needs) (λ c. search needs) (λ c. search needs) (λ c. search needs)
+    array-read-list mul-list (λ c. search needs) (λ c. search needs) add-next (λ c. search needs) (λ c. search needs) loop-again
     returns)

@@ -11,47 +11,13 @@ use Rattle.ticket.specs.declared.Cursor.{Cursor}
 use Rattle.ticket.proofs.sides.Statement.{statement}
 use Rattle.ticket.proofs.sides.Tie as tie
 
-shared-slice-read-n : tie.Need-shared-slice-read-n
-shared-slice-read-n c = search needs
-
-cast-n : tie.Need-cast-n
-cast-n c = search needs
-
-shared-slice-read-w : tie.Need-shared-slice-read-w
-shared-slice-read-w c = search needs
-
-cast-w : tie.Need-cast-w
-cast-w c = search needs
-
-shared-slice-read-map : tie.Need-shared-slice-read-map
-shared-slice-read-map c = search needs
-
-bit-of-requires : tie.Need-bit-of-requires
-bit-of-requires c κs = search needs
-
-go-on-requires : tie.Need-go-on-requires
-go-on-requires c κs = search needs
-
 after-requires : tie.Need-after-requires
-after-requires c κs = let h = c .before .before .before .before .before .before .pre in (h .one .0, h .one .1, omega (arith, at-going (c .go-on .ensures), h .size))
-
-bit-of-requires-2 : tie.Need-bit-of-requires-2
-bit-of-requires-2 c κs = search needs
-
-after-requires-2 : tie.Need-after-requires-2
-after-requires-2 c κs = search needs
-
-bit-of-requires-3 : tie.Need-bit-of-requires-3
-bit-of-requires-3 c κs = search needs
-
-after-requires-3 : tie.Need-after-requires-3
-after-requires-3 c κs = search needs
-
-bit-of-requires-4 : tie.Need-bit-of-requires-4
-bit-of-requires-4 c κs = search needs
+after-requires c κs = let h = c .before .before .before .before .before .before .pre in
+    (h .one .0, h .one .1, omega (arith, at-going (c .go-on .ensures), h .size))
 
 after-requires-4 : tie.Need-after-requires-4
-after-requires-4 c κs = let h = c .before .before .before .before .before .before .before .before .before .before .before .before .pre in (h .two .0, h .two .1, c .before .after3 .ensures .1)
+after-requires-4 c κs = let h = c .before .before .before .before .before .before .before .before .before .before .before .before .pre in
+    (h .two .0, h .two .1, c .before .after3 .ensures .1)
 
 returns : tie.Need-returns
 unfolding northEnd southEnd westEnd eastEnd
@@ -60,27 +26,15 @@ returns c =
     let n : Bool → Cursor → Cursor = λ b x. after s b (byte s 1) x in
     let w : Bool → Cursor → Cursor = λ b x. after s b (byte s 2) x in
     let north : c .before .before .before .before .before .before .after .result ≡ northEnd s = c .before .before .before .before .before .before .after .ensures .0 ∙ ap₂ n (c .before .before .before .before .before .before .before .before .bit-of .ensures) (c .before .before .before .before .before .before .before .go-on .ensures) in
-    let south : c .before .before .before .before .after2 .result ≡ southEnd s = c .before .before .before .before .after2 .ensures .0 ∙ ap₂ n (c .before .before .before .before .before .bit-of2 .ensures) north in
-    let west : c .before .before .after3 .result ≡ westEnd s = c .before .before .after3 .ensures .0 ∙ ap₂ w (c .before .before .before .bit-of3 .ensures) south in
+    let south : c .before .before .before .before .after2 .result ≡ southEnd s = c .before .before .before .before .after2 .ensures .0 ∙ ap₂ n
+    (c .before .before .before .before .before .bit-of2 .ensures) north in
+    let west : c .before .before .after3 .result ≡ westEnd s = c .before .before .after3 .ensures .0 ∙ ap₂ w
+    (c .before .before .before .bit-of3 .ensures) south in
     let east : c .after4 .result ≡ eastEnd s = c .after4 .ensures .0 ∙ ap₂ w (c .before .bit-of4 .ensures) west in
     λ i. record { north = north i; south = south i; west = west i; east = east i }
 
 pub sides-spec : {M : Type 1} → statement M
 sides-spec =
-    tie.close
-    (tie.spec
-    shared-slice-read-n
-    cast-n
-    shared-slice-read-w
-    cast-w
-    shared-slice-read-map
-    bit-of-requires
-    go-on-requires
-    after-requires
-    bit-of-requires-2
-    after-requires-2
-    bit-of-requires-3
-    after-requires-3
-    bit-of-requires-4
-    after-requires-4
-    returns)
+    tie.close (tie.spec (λ c. search needs) (λ c. search needs) (λ c. search needs) (λ c. search needs) (λ c. search needs)
+    (λ c κs. search needs) (λ c κs. search needs) after-requires (λ c κs. search needs) (λ c κs. search needs) (λ c κs. search needs)
+    (λ c κs. search needs) (λ c κs. search needs) after-requires-4 returns)

@@ -23,17 +23,8 @@ abbrev μ-loop : tie.MeasureT-loop
 elem : (c : tie.After-shared-slice-known Inv-loop μ-loop) → Fits w8 (byte (now (c .before .before .before .args .ticket)) (c .before .before .loop .i))
 elem c = c .shared-slice-known .given (c .before .before .loop .i)
 
-add-i : tie.Need-add-i Inv-loop μ-loop
-add-i c = search needs
-
-add-i-2 : tie.Need-add-i-2 Inv-loop μ-loop
-add-i-2 c = search needs
-
 loop-holds : tie.Need-loop-holds Inv-loop μ-loop
 loop-holds c = (omega arith, omega arith, tally-none (omega arith) (search needs))
-
-shared-slice-read-v : tie.Need-shared-slice-read-v Inv-loop μ-loop
-shared-slice-read-v c = search needs
 
 cast-v : tie.Need-cast-v Inv-loop μ-loop
 cast-v c = omega (arith, elem c)
@@ -55,12 +46,6 @@ mul-c-2 c = omega (arith, elem c)
 array-write-c : tie.Need-array-write-c Inv-loop μ-loop
 array-write-c c = omega (arith, elem c, c .before .before .loop .inv .2 .size)
 
-add-i-3 : tie.Need-add-i-3 Inv-loop μ-loop
-add-i-3 c = search needs
-
-loop-less : tie.Need-loop-less Inv-loop μ-loop
-loop-less c = search needs
-
 loop-again : tie.Need-loop-again Inv-loop μ-loop
 loop-again c = (omega arith, omega arith, tally-more (c .before .before .loop .inv .0) (elem c .fits) (c .before .before .loop .inv .2))
 
@@ -74,21 +59,5 @@ returns c =
 
 pub tally-spec : {M : Type 1} → statement M
 tally-spec =
-    tie.close
-    (tie.spec
-    Inv-loop
-    μ-loop
-    add-i
-    add-i-2
-    loop-holds
-    shared-slice-read-v
-    cast-v
-    mul-c
-    array-read-c
-    add-c
-    mul-c-2
-    array-write-c
-    add-i-3
-    loop-less
-    loop-again
-    returns)
+    tie.close (tie.spec Inv-loop μ-loop (λ c. search needs) (λ c. search needs) loop-holds (λ c. search needs) cast-v mul-c array-read-c
+    add-c mul-c-2 array-write-c (λ c. search needs) (λ c. search needs) loop-again returns)

@@ -2,60 +2,69 @@
 use native.Mathlib.Omega.{arith}
 use denote.Ref.{now}
 use borrow.Author.Needs.{needs}
-use Rattle.ticket.proofs.Filled.{zeros-at}
+use Rattle.terms.specs.Limits.{byteValues}
+use Rattle.counting.proofs.Lists.{zeros-at}
 use Rattle.ticket.proofs.Spans.{span-asks, span-most, pin-count}
 use Rattle.ticket.proofs.tally_all.Statement.{statement}
 use Rattle.ticket.proofs.tally_all.Tie as tie
 
-shared-slice-read-n : tie.Need-shared-slice-read-n
-shared-slice-read-n c = search needs
-
-cast-n : tie.Need-cast-n
-cast-n c = search needs
-
-shared-slice-read-w : tie.Need-shared-slice-read-w
-shared-slice-read-w c = search needs
-
-cast-w : tie.Need-cast-w
-cast-w c = search needs
-
 tally-requires : tie.Need-tally-requires
 tally-requires c κs =
     let p = c .before .before .before .pre in
-    (λ v h. omega (arith, zeros-at 256 v), span-asks (p .0 .one .1) (p .1 .north))
+    (λ v h. omega (arith, zeros-at byteValues v), span-asks (p .0 .one .1) (p .1 .north))
 
 tally-requires-2 : tie.Need-tally-requires-2
 tally-requires-2 c κs =
     let p = c .before .before .before .before .pre in
-    (λ v h. omega (arith, zeros-at 256 v, c .tally .ensures v h, span-most v (p .0 .one .1) (p .1 .north)), span-asks (p .0 .one .1) (p .1 .south))
+    (λ v h. omega (arith, zeros-at byteValues v, c .tally .ensures v h, span-most v (p .0 .one .1) (p .1 .north)), span-asks (p .0 .one .1) (p .1 .south))
 
 tally-requires-3 : tie.Need-tally-requires-3
 tally-requires-3 c κs =
-    let p = c .before .before .before .before .before .pre in
-    (λ v h. omega (arith, zeros-at 256 v, c .before .tally .ensures v h, span-most v (p .0 .one .1) (p .1 .north), c .tally2 .ensures v h, span-most v (p .0 .one .1) (p .1 .south)), span-asks (p .0 .two .1) (p .1 .west))
+    let p = c .before .before .before .before .before .pre in (
+      λ v h. omega (
+        arith,
+        zeros-at byteValues v,
+        c .before .tally .ensures v h,
+        span-most v (p .0 .one .1) (p .1 .north),
+        c .tally2 .ensures v h,
+        span-most v (p .0 .one .1) (p .1 .south),
+      ),
+      span-asks (p .0 .two .1) (p .1 .west),
+    )
 
 tally-requires-4 : tie.Need-tally-requires-4
 tally-requires-4 c κs =
-    let p = c .before .before .before .before .before .before .pre in
-    (λ v h. omega (arith, zeros-at 256 v, c .before .before .tally .ensures v h, span-most v (p .0 .one .1) (p .1 .north), c .before .tally2 .ensures v h, span-most v (p .0 .one .1) (p .1 .south), c .tally3 .ensures v h, span-most v (p .0 .two .1) (p .1 .west)), span-asks (p .0 .two .1) (p .1 .east))
+    let p = c .before .before .before .before .before .before .pre in (
+      λ v h. omega (
+        arith,
+        zeros-at byteValues v,
+        c .before .before .tally .ensures v h,
+        span-most v (p .0 .one .1) (p .1 .north),
+        c .before .tally2 .ensures v h,
+        span-most v (p .0 .one .1) (p .1 .south),
+        c .tally3 .ensures v h,
+        span-most v (p .0 .two .1) (p .1 .west),
+      ),
+      span-asks (p .0 .two .1) (p .1 .east),
+    )
 
 returns : tie.Need-returns
 returns c =
     let p = c .before .before .before .before .before .before .before .pre in
     let a = c .before .before .before .before .before .before .before .args in
     λ v i.
-    omega (arith, zeros-at 256 v, c .before .before .before .tally .ensures v (omega arith), c .before .before .tally2 .ensures v (omega arith), c .before .tally3 .ensures v (omega arith), c .tally4 .ensures v (omega arith), pin-count (now (a .ticket)) (a .ends) v (λ z. omega arith) (p .0) (p .1))
+    omega (
+      arith,
+      zeros-at byteValues v,
+      c .before .before .before .tally .ensures v (omega arith),
+      c .before .before .tally2 .ensures v (omega arith),
+      c .before .tally3 .ensures v (omega arith),
+      c .tally4 .ensures v (omega arith),
+      pin-count (now (a .ticket)) (a .ends) v (λ z. omega arith) (p .0)
+          (p .1),
+    )
 
 pub tally-all-spec : {M : Type 1} → statement M
 tally-all-spec =
-    tie.close
-    (tie.spec
-    shared-slice-read-n
-    cast-n
-    shared-slice-read-w
-    cast-w
-    tally-requires
-    tally-requires-2
-    tally-requires-3
-    tally-requires-4
-    returns)
+    tie.close (tie.spec (λ c. search needs) (λ c. search needs) (λ c. search needs) (λ c. search needs) tally-requires tally-requires-2
+    tally-requires-3 tally-requires-4 returns)

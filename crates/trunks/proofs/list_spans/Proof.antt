@@ -16,56 +16,14 @@ Inv-loop north south n right left₀ spans₀ count₀ pins q₀ left spans coun
 abbrev μ-loop : tie.MeasureT-loop
 μ-loop north south n right left₀ spans₀ count₀ pins q₀ left spans count q = pins - q
 
-mul-pins : tie.Need-mul-pins Inv-loop μ-loop
-mul-pins c = search needs
-
 loop-holds : tie.Need-loop-holds Inv-loop μ-loop
 loop-holds c = (search needs, search needs, search needs, search needs, list-starts _ _)
-
-pin-at-requires : tie.Need-pin-at-requires Inv-loop μ-loop
-pin-at-requires c κs = search needs
-
-wide-requires : tie.Need-wide-requires Inv-loop μ-loop
-wide-requires c κs = search needs
-
-add-column : tie.Need-add-column Inv-loop μ-loop
-add-column c = search needs
-
-add-q : tie.Need-add-q Inv-loop μ-loop
-add-q c = search needs
 
 array-read-if1 : tie.Need-array-read-if1 Inv-loop μ-loop
 array-read-if1 c = search needs
 
-cast-left : tie.Need-cast-left Inv-loop μ-loop
-cast-left c = search needs
-
-array-write-left : tie.Need-array-write-left Inv-loop μ-loop
-array-write-left c = search needs
-
-element-copy-out-last : tie.Need-element-copy-out-last Inv-loop μ-loop
-element-copy-out-last c = search needs
-
-wide-requires-2 : tie.Need-wide-requires-2 Inv-loop μ-loop
-wide-requires-2 c κs = search needs
-
-cast-t26 : tie.Need-cast-t26 Inv-loop μ-loop
-cast-t26 c = search needs
-
-cast-t27 : tie.Need-cast-t27 Inv-loop μ-loop
-cast-t27 c = search needs
-
-mul-spans : tie.Need-mul-spans Inv-loop μ-loop
-mul-spans c = search needs
-
 array-set-from-spans : tie.Need-array-set-from-spans Inv-loop μ-loop
 array-set-from-spans c = search needs
-
-add-count : tie.Need-add-count Inv-loop μ-loop
-add-count c = search needs
-
-loop-less : tie.Need-loop-less Inv-loop μ-loop
-loop-less c = search needs
 
 loop-again : tie.Need-loop-again Inv-loop μ-loop
 loop-again c =
@@ -82,9 +40,6 @@ loop-again c =
           (omega (arith, c .before .wide2 .ensures))),
     )
 
-loop-less-2 : tie.Need-loop-less-2 Inv-loop μ-loop
-loop-less-2 c = search needs
-
 loop-again-2 : tie.Need-loop-again-2 Inv-loop μ-loop
 loop-again-2 c =
     let c3 = c .before .before .before in
@@ -98,9 +53,6 @@ loop-again-2 c =
       list-mark _ _ _ _ _ _ (c4 .wide .ensures ∙ c5 .pin-at .ensures) (c7 .loop .inv .4)
           (array-read-if1 c4) (c3 .if1 .taken) (omega (arith, c .before .wide2 .ensures)),
     )
-
-loop-less-3 : tie.Need-loop-less-3 Inv-loop μ-loop
-loop-less-3 c = search needs
 
 loop-again-3 : tie.Need-loop-again-3 Inv-loop μ-loop
 loop-again-3 c =
@@ -119,30 +71,7 @@ returns c = let e : c .before .loop .q ≡ 2 * c .before .before .args .n = omeg
 
 pub list-spans-spec : {M : Type 1} → statement M
 list-spans-spec =
-    tie.close
-    (tie.spec
-    Inv-loop
-    μ-loop
-    mul-pins
-    loop-holds
-    pin-at-requires
-    wide-requires
-    add-column
-    add-q
-    array-read-if1
-    cast-left
-    array-write-left
-    element-copy-out-last
-    wide-requires-2
-    cast-t26
-    cast-t27
-    mul-spans
-    array-set-from-spans
-    add-count
-    loop-less
-    loop-again
-    loop-less-2
-    loop-again-2
-    loop-less-3
-    loop-again-3
-    returns)
+    tie.close (tie.spec Inv-loop μ-loop (λ c. search needs) loop-holds (λ c κs. search needs) (λ c κs. search needs) (λ c. search needs)
+    (λ c. search needs) array-read-if1 (λ c. search needs) (λ c. search needs) (λ c. search needs) (λ c κs. search needs)
+    (λ c. search needs) (λ c. search needs) (λ c. search needs) array-set-from-spans (λ c. search needs) (λ c. search needs) loop-again
+    (λ c. search needs) loop-again-2 (λ c. search needs) loop-again-3 returns)

@@ -1,6 +1,5 @@
--- `trunks::pack` meets its contract: a walk of its MIR, by hand. The array is copied to a local that has an address, its first n elements are lent as a slice for a lifetime that is made for the call, and it is taken back.
--- All that the proof knows of `pack_spans` is that it meets its contract.
--- Assumes nothing.
+-- `trunks::pack` meets its contract: a walk of its MIR, by hand. The array is copied to a local that has an address, its first n elements are lent as a slice
+-- for a lifetime that is made for the call, and it is taken back. All that the proof knows of `pack_spans` is that it meets its contract. Assumes nothing.
 use mathlib.Core.Path.{_≡_, refl, sym}
 use Prim.Native.Nat.{ℕ, _*_, _<_, _≤_, _^_}
 use native.Mathlib.Omega.{arith}
@@ -19,9 +18,11 @@ use prog.Wp.{Heap, Calls, Loops, WpFn, Tables}
 use ghost.Atoms.{Atoms, sem}
 use contract.Monad.{Fun, fact}
 use contract.Running.{givenOf, tables, tablesOf}
-use types.Kit.{Given, ‵, raw, _⊛_, ⋆, some, given, later, _$_, _∵_, !, qed, by, move, keep, use1, use2, split, join, pick, learn, rewrite, fjoin, suffices, frame, await, done}
+use types.Kit.{Given, ‵, raw, _⊛_, ⋆, some, given, later, _$_, _∵_, !, qed, by, move, keep, use1, use2, split, join, pick, learn, rewrite, fjoin, suffices}
+use types.Kit.{frame, await, done}
 use types.Part.{agg}
-use types.Run.{look, init, forget, stop, from, load, addr, of-opd, and-then, no-more, assigns, land, returns, enter, alloc1, alloc0, params1, pass1, pass0, free1, free0}
+use types.Run.{look, init, forget, stop, from, load, addr, of-opd, and-then, no-more, assigns, land, returns, enter, alloc1, alloc0, params1, pass1, pass0}
+use types.Run.{free1, free0}
 use types.Share.{arr-parts}
 use types.Tokens.{lft-new, lft-end, lent-back}
 use sound.WpLaws.{FmC, fmOf, WpFn-mono}
@@ -83,7 +84,8 @@ PackSpans 𝓤 H A mem run = tripleOf 𝓤 H A pack-spans.signature (pack-spans.
 room-of : (m : ℕ) → m ≤ 180 → (m < 2 ^ 64) × (m * 3 < 2 ^ 63)
 room-of m h = (omega arith, omega arith)
 
-module _ {M : Type 1} (𝓤 : URA M) (H : Heap 𝓤) (A : Atoms 𝓤) (W : Given 𝓤 H A) (mem : Memory → SProp 𝓤) (run : Routine → Fun 𝓤) (xs : List Span) (n : ℕ) (g : Is Row xs (machs xs)) (gi : n < 2 ^ 64) (pre : (n ≤ 180) × Packable freshPacking (take n xs)) where
+module _ {M : Type 1} (𝓤 : URA M) (H : Heap 𝓤) (A : Atoms 𝓤) (W : Given 𝓤 H A) (mem : Memory → SProp 𝓤) (run : Routine → Fun 𝓤) (xs : List Span) (n : ℕ)
+    (g : Is Row xs (machs xs)) (gi : n < 2 ^ 64) (pre : (n ≤ 180) × Packable freshPacking (take n xs)) where
   abbrev long : length xs ≡ 180
   long = g .1 .0 .1
 
@@ -125,12 +127,15 @@ module _ {M : Type 1} (𝓤 : URA M) (H : Heap 𝓤) (A : Atoms 𝓤) (W : Given
   abbrev to : ℕ → ℕ → GName → PackSpans 𝓤 H A mem run .Ghost
   to ν b γ = (((ν ∷ [], tt), (fullShare, tt), tt, (x b γ, tt), (s b ∷ [], tt)), tt)
 
-  goes : (ν b : ℕ) (γ : GName) → ent 𝓤 (sep 𝓤 (A .lft (ν ∷ []) fullShare) (sem 𝓤 H A (ShrSlice (named 0) (ν ∷ []) R .own (x b γ) (s b ∷ [])))) (PackSpans 𝓤 H A mem run .pre (to ν b γ))
+  goes : (ν b : ℕ) (γ : GName) → ent 𝓤 (sep 𝓤 (A .lft (ν ∷ []) fullShare) (sem 𝓤 H A (ShrSlice (named 0) (ν ∷ []) R .own (x b γ) (s b ∷ []))))
+      (PackSpans 𝓤 H A mem run .pre (to ν b γ))
   goes ν b γ =
-      qed W (‵ (flft (ν ∷ []) fullShare) ∷ ‵ (ShrSlice (named 0) (ν ∷ []) R .own (x b γ) (s b ∷ [])) ∷ []) ∵ says ! (pre .1) $ nothing ! $ move ! (1 ∷ 0 ∷ []) $ join ! $ frame ! $
+      qed W (‵ (flft (ν ∷ []) fullShare) ∷ ‵ (ShrSlice (named 0) (ν ∷ []) R .own (x b γ) (s b ∷ [])) ∷ []) ∵ says ! (pre .1) $ nothing ! $ move !
+      (1 ∷ 0 ∷ []) $ join ! $ frame ! $
       nothing ! $ move ! (1 ∷ 0 ∷ []) $ fjoin ! $ done !
 
-  said : (ν b : ℕ) (γ : GName) (r : Packing) → ent 𝓤 (ensured 𝓤 H A pack-spans.ended (pack-spans.clauses 𝓤 H A mem run) (ν ∷ [], tt) (x b γ, tt) tt r) (fact 𝓤 (r ≡ packed freshPacking ys))
+  said : (ν b : ℕ) (γ : GName) (r : Packing) → ent 𝓤 (ensured 𝓤 H A pack-spans.ended (pack-spans.clauses 𝓤 H A mem run) (ν ∷ [], tt) (x b γ, tt) tt r)
+      (fact 𝓤 (r ≡ packed freshPacking ys))
   said ν b γ r = exE 𝓤 _ (λ ws. snd∗ 𝓤 (sem 𝓤 H A (lasts pack-spans.ended (ν ∷ [], tt) (x b γ, tt) ws)) (fact 𝓤 (r ≡ packed freshPacking ys)))
 
   exits : (r : Packing) (u : Val) → r ≡ packed freshPacking ys → ent 𝓤 (⋆ 𝓤 H A (‵ (B .own r (u ∷ [])) ∷ ‵ (owns (Row ∷ usize ∷ []) a at) ∷ [])) (Post u)
@@ -149,39 +154,62 @@ module _ {M : Type 1} (𝓤 : URA M) (H : Heap 𝓤) (A : Atoms 𝓤) (W : Given
         -- [_5; …; _4; …; _3; …; _2; …; _1; …; room for _0; …; true; what the parameters own]
         assigns ! (of-opd ! (load ! (from ! (stop !)) (look ! 8 refl))) (from ! (stop !)) (init ! 4 refl wt) $
         assigns ! (addr ! (from ! (stop !))) (from ! (stop !)) (init ! 2 refl (tt, tt)) $
-        assigns ! (agg ! (and-then ! (load ! (from ! (stop !)) (look ! 2 refl)) (and-then ! (load ! (from ! (stop !)) (look ! 6 refl)) (no-more !)))) (from ! (stop !)) (init ! 0 refl (tt, (tt, (record { fits = gi }, tt)))) $
+        assigns ! (agg ! (and-then ! (load ! (from ! (stop !)) (look ! 2 refl)) (and-then ! (load ! (from ! (stop !)) (look ! 6 refl)) (no-more !))))
+        (from ! (stop !)) (init ! 0 refl (tt, (tt, (record { fits = gi }, tt)))) $
         rewrite ! 0 (λ (m : ℕ). ‵ (fat fullShare (sliceTy (tyRef erased imm (pointee (R .written)))) l₅ 0 (sliceVal (l₃, 0) m))) (sym count) refl $
         -- the first n elements are lent, for a lifetime ν of the call
-        move ! (4 ∷ []) $ use1 W (‵ (arr-parts (shares R) 180 .part fullShare xs l₃ 0)) (apart 𝓤 H A W R tt (LL.makes T.the-type T′.the-plain 𝓤 H A) 180 xs val l₃ g) $
-        use1 W (‵ (arr-parts (shares R) (length ys) .part fullShare ys l₃ 0) ⊛ ‵ (others 𝓤 H A W R n xs l₃)) (cut-at 𝓤 H A W R 180 n xs l₃) $ split ! $ lft-new ! tt (λ ν. move ! (1 ∷ []) $
-        use1 W (later (some (λ (γ : GName). ‵ (ShrSlice (named 0) (ν ∷ []) R .own (x l₃ γ) (s l₃ ∷ [])) ⊛ ‵ (flent (ν ∷ []) (arr-parts (shares R) (length ys) .part fullShare ys l₃ 0))))) (lends-shr-slice 𝓤 H A W R (named 0) (ν ∷ []) fullShare ys l₃ 0 room) $ await ! tt $ pick ! (λ γ. split ! $
+        move ! (4 ∷ []) $ use1 W (‵ (arr-parts (shares R) 180 .part fullShare xs l₃ 0))
+        (apart 𝓤 H A W R tt (LL.makes T.the-type T′.the-plain 𝓤 H A) 180 xs val l₃ g) $
+        use1 W (‵ (arr-parts (shares R) (length ys) .part fullShare ys l₃ 0) ⊛ ‵ (others 𝓤 H A W R n xs l₃))
+        (cut-at 𝓤 H A W R 180 n xs l₃) $ split ! $ lft-new ! tt (λ ν. move ! (1 ∷ []) $
+        use1 W (later (some (λ (γ : GName). ‵ (ShrSlice (named 0) (ν ∷ []) R .own (x l₃ γ) (s l₃ ∷ [])) ⊛ ‵
+        (flent (ν ∷ []) (arr-parts (shares R) (length ys) .part fullShare ys l₃ 0)))))
+        (lends-shr-slice 𝓤 H A W R (named 0) (ν ∷ []) fullShare ys l₃ 0 room) $ await ! tt $ pick ! (λ γ. split ! $
         move ! (2 ∷ 0 ∷ []) $ use2 W (raw (PackSpans 𝓤 H A mem run .pre (to ν l₃ γ))) (goes ν l₃ γ) $
         -- [what the callee asks; what is lent; the others; _5; …; _4; …; that _3 dies; _2; …; _1; …; room for _0; …; true; what the parameters own]
         calls-at ! fm (PackSpans 𝓤 H A mem run) known (to ν l₃ γ) (and-then ! (load ! (from ! (stop !)) (look ! 3 refl)) (no-more !)) (λ u.
-        use1 W (later (some (λ (r : Packing). ((‵ (flft (ν ∷ []) fullShare) ⊛ ‵ ftrue) ⊛ ‵ (B .own r (u ∷ []))) ⊛ raw (ensured 𝓤 H A pack-spans.ended (pack-spans.clauses 𝓤 H A mem run) (ν ∷ [], tt) (x l₃ γ, tt) tt r)))) (id⊢ 𝓤 _) $ await ! tt $ pick ! (λ r.
-        split ! $ move ! (1 ∷ []) $ use1 W (raw (fact 𝓤 (r ≡ packed freshPacking ys))) (said ν l₃ γ r) $ heard ! (r ≡ packed freshPacking ys) (λ e. split ! $ move ! (1 ∷ []) $
+        use1 W (later (some (λ (r : Packing). ((‵ (flft (ν ∷ []) fullShare) ⊛ ‵ ftrue) ⊛ ‵ (B .own r (u ∷ []))) ⊛ raw
+        (ensured 𝓤 H A pack-spans.ended (pack-spans.clauses 𝓤 H A mem run) (ν ∷ [], tt) (x l₃ γ, tt) tt r)))) (id⊢ 𝓤 _) $ await ! tt $ pick ! (λ r.
+        split ! $ move ! (1 ∷ []) $ use1 W (raw (fact 𝓤 (r ≡ packed freshPacking ys))) (said ν l₃ γ r) $ heard ! (r ≡ packed freshPacking ys)
+        (λ e. split ! $ move ! (1 ∷ []) $
         peeks ! B (Is B) (shows 𝓤 H A B) r (u ∷ []) (λ is.
         -- [the result; the token; what is lent; the others; _5; …; _4; …; that _3 dies; _2; …; _1; …; room for _0; …]
         land ! (from ! (stop !)) (init ! 13 refl (LL.lawful P.the-type P′.the-laws 𝓤 H A W .typed r _ is .0)) $
         -- the lifetime is ended, and the array comes back
         move ! (1 ∷ []) $ split ! $ lft-end ! tt $ move ! (0 ∷ 3 ∷ []) $ lent-back ! tt $ move ! (0 ∷ 3 ∷ []) $
         use2 W (‵ (arr-parts (shares R) 180 .part fullShare xs l₃ 0)) (join-at 𝓤 H A W R 180 n xs l₃ long) $
-        use1 W (some (λ (v : Val). given (Is Row xs (v ∷ [])) (‵ (fat fullShare (tyArray T′.mir 180) l₃ 0 v)))) (together 𝓤 H A W R 180 xs l₃) $ pick ! (λ v. learn ! (λ _.
+        use1 W (some (λ (v : Val). given (Is Row xs (v ∷ [])) (‵ (fat fullShare (tyArray T′.mir 180) l₃ 0 v)))) (together 𝓤 H A W R 180 xs l₃) $ pick !
+        (λ v. learn ! (λ _.
         -- [_3; true; what the result owns; _5; …; _4; …; that _3 dies; _2; …; _1; …; _0; …; true; what the parameters own]
         returns ! (look ! 12 refl) $ forget ! 0 refl $ forget ! 3 refl $ forget ! 5 refl $ forget ! 8 refl $ forget ! 10 refl $ forget ! 12 refl $
-        move ! (12 ∷ 13 ∷ []) $ free1 ! $ move ! (10 ∷ 11 ∷ []) $ free1 ! $ move ! (8 ∷ 9 ∷ []) $ free1 ! $ move ! (0 ∷ 7 ∷ []) $ free1 ! $ move ! (4 ∷ 5 ∷ []) $ free1 ! $ move ! (2 ∷ 3 ∷ []) $ free1 ! $ free0 ! $
+        move ! (12 ∷ 13 ∷ []) $ free1 ! $ move ! (10 ∷ 11 ∷ []) $ free1 ! $ move ! (8 ∷ 9 ∷ []) $ free1 ! $ move ! (0 ∷ 7 ∷ []) $ free1 ! $ move !
+        (4 ∷ 5 ∷ []) $ free1 ! $ move ! (2 ∷ 3 ∷ []) $ free1 ! $ free0 ! $
         keep ! (1 ∷ 3 ∷ []) $ by ! (exits r u e)))))))))))))))
 
 module _ {M : Type 1} (𝓤 : URA M) (H : Heap 𝓤) (A : Atoms 𝓤) (W : Given 𝓤 H A) (mem : Memory → SProp 𝓤) (run : Routine → Fun 𝓤) where
-  pack-walks : (C : Calls 𝓤 H) (Λ : Loops 𝓤 H) → FmC 𝓤 H (W .laws) C → Triple 𝓤 (C #trunks·pack-spans) (PackSpans 𝓤 H A mem run) → Walks 𝓤 H A pack.ended stayed (WpFn 𝓤 H C Λ code.function) (pack.clauses 𝓤 H A mem run)
+  pack-walks : (C : Calls 𝓤 H) (Λ : Loops 𝓤 H) → FmC 𝓤 H (W .laws) C → Triple 𝓤 (C #trunks·pack-spans) (PackSpans 𝓤 H A mem run)
+      → Walks 𝓤 H A pack.ended stayed (WpFn 𝓤 H C Λ code.function) (pack.clauses 𝓤 H A mem run)
   pack-walks C Λ fm known = walked 𝓤 H A pack.ended stayed (pack.clauses 𝓤 H A mem run) (WpFn 𝓤 H C Λ code.function)
-      (λ κs. (machs, (uint-vals w64, tt))) (λ κs. (array-tells R (LL.vals T.the-type T′.the-laws) (LL.tells T.the-type T′.the-laws) 180, (uint-tells w64, tt)))
+      (λ κs. (machs, (uint-vals w64, tt))) (λ κs. (
+        array-tells R (LL.vals T.the-type T′.the-laws) (LL.tells T.the-type T′.the-laws) 180,
+        (
+          uint-tells w64,
+          tt,
+        ),
+      ))
       (λ κs qs bounds a g are. needs 𝓤 _ _ (λ pre. walk 𝓤 H A W mem run (a .0) (a .1 .0) (are .0) (are .1 .0 .1) pre C Λ fm known))
 
-pack-meets : {M : Type 1} (𝓤 : URA M) (H : Heap 𝓤) (A : Atoms 𝓤) → Given 𝓤 H A → (mem : Memory → SProp 𝓤) (run : Routine → Fun 𝓤) (𝓣 : Tables 𝓤 H) → Triple 𝓤 (𝓣 .C #trunks·pack-spans) (PackSpans 𝓤 H A mem run)
+pack-meets : {M : Type 1} (𝓤 : URA M) (H : Heap 𝓤) (A : Atoms 𝓤) → Given 𝓤 H A → (mem : Memory → SProp 𝓤) (run : Routine → Fun 𝓤) (𝓣 : Tables 𝓤 H)
+    → Triple 𝓤 (𝓣 .C #trunks·pack-spans) (PackSpans 𝓤 H A mem run)
     → Meets 𝓤 H A pack.signature (WpFn 𝓤 H (𝓣 .C) (𝓣 .Λ) code.function) (pack.spec 𝓤 H A mem run)
 pack-meets 𝓤 H A W mem run 𝓣 known =
-    walk-meets 𝓤 H A pack.ended stayed W (goes-none 𝓤 H A W 0 (λ _. Row) yes (λ κs x f. refl), (goes-none 𝓤 H A W 0 (λ _. usize) yes (λ κs x f. refl), tt)) (pack.clauses 𝓤 H A mem run)
+    walk-meets 𝓤 H A pack.ended stayed W (
+      goes-none 𝓤 H A W 0 (λ _. Row) yes (λ κs x f. refl),
+      (
+        goes-none 𝓤 H A W 0 (λ _. usize) yes (λ κs x f. refl),
+        tt,
+      ),
+    ) (pack.clauses 𝓤 H A mem run)
     (WpFn 𝓤 H (𝓣 .C) (𝓣 .Λ) code.function) (WpFn-mono 𝓤 H (W .laws) 𝓣 code.function) (pack-walks 𝓤 H A W mem run (𝓣 .C) (𝓣 .Λ) (fmOf 𝓤 H (W .laws) 𝓣) known)
 
 pub pack-spec : {M : Type 1} → stated.statement M
@@ -190,4 +218,5 @@ pack-spec 𝓤 H 𝓜 𝓖 𝓡 =
     entered 𝓤 H (tripleOf 𝓤 H (𝓖 .A) pack.signature (pack.spec 𝓤 H (𝓖 .A) (𝓜 .mem) (𝓡 .run)))
     (tables 𝓤 H 𝓜 𝓡 code.env .C) (tables 𝓤 H 𝓜 𝓡 code.env .Λ) #trunks·pack code.function (code.unfolded 𝓤 H 𝓜 𝓡)
     (pack-meets 𝓤 H (𝓖 .A) (givenOf 𝓤 H 𝓜 𝓖) (𝓜 .mem) (𝓡 .run) (tablesOf 𝓤 H 𝓜 (tables 𝓤 H 𝓜 𝓡 code.env))
-    (cited 𝓤 H (PackSpans 𝓤 H (𝓖 .A) (𝓜 .mem) (𝓡 .run)) 𝓜 𝓡 code.env #trunks·pack-spans pack-spans-def.routine code.calls-trunks·pack-spans (pack-spans-thm.met 𝓤 H 𝓜 𝓖 𝓡)))
+    (cited 𝓤 H (PackSpans 𝓤 H (𝓖 .A) (𝓜 .mem) (𝓡 .run)) 𝓜 𝓡 code.env #trunks·pack-spans pack-spans-def.routine code.calls-trunks·pack-spans
+    (pack-spans-thm.met 𝓤 H 𝓜 𝓖 𝓡)))

@@ -5,18 +5,12 @@ use borrow.Author.Needs.{needs}
 use Rattle.trunks.proofs.pin_at.Statement.{statement}
 use Rattle.trunks.proofs.pin_at.Tie as tie
 
-element-copy-out-result : tie.Need-element-copy-out-result
-element-copy-out-result c = search needs
-
 returns : tie.Need-returns
 returns c = rw (eq-eqb (c .before .before .args .q % 2) 0 (c .before .if1 .taken))
-
-element-copy-out-result-2 : tie.Need-element-copy-out-result-2
-element-copy-out-result-2 c = search needs
 
 returns-2 : tie.Need-returns-2
 returns-2 c = rw (ne-eqb (c .before .before .args .q % 2) 0 (c .before .if1 .left))
 
 pub pin-at-spec : {M : Type 1} → statement M
 pin-at-spec =
-    tie.close (tie.spec element-copy-out-result returns element-copy-out-result-2 returns-2)
+    tie.close (tie.spec (λ c. search needs) returns (λ c. search needs) returns-2)

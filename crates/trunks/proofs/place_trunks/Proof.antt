@@ -5,19 +5,13 @@ use Rattle.trunks.proofs.Promise.{packable, promised}
 use Rattle.trunks.proofs.place_trunks.Statement.{statement}
 use Rattle.trunks.proofs.place_trunks.Tie as tie
 
-rights-requires : tie.Need-rights-requires
-rights-requires c κs = search needs
-
-list-spans-requires : tie.Need-list-spans-requires
-list-spans-requires c κs = search needs
-
 pack-requires : tie.Need-pack-requires
 pack-requires c κs =
     let c2 = c .before .before in
     let c4 = c2 .before .before in
-    let c5 = c4 .before in (
+    let c6 = c4 .before .before in (
       c2 .list-spans .ensures .0,
-      packable (c5 .args .north .now) (c5 .args .south .now) _ (c5 .pre .1) (c5 .pre .2) _ _ _
+      packable (c6 .args .north .now) (c6 .args .south .now) _ (c6 .pre .1) (c6 .pre .2) _ _ _
           (short _ _ (c2 .list-spans .ensures .0)) (c4 .rights .ensures) (c2 .list-spans .ensures .1),
     )
 
@@ -26,8 +20,9 @@ returns c =
     let c4 = c .before .before .before .before in
     let c6 = c4 .before .before in
     let c7 = c6 .before in
-    rw (c .before .pack .ensures) (promised _ _ _ (c7 .pre .1) (c7 .pre .2) _ _ _ (short _ _ (c4 .list-spans .ensures .0)) (c6 .rights .ensures)
-    (c4 .list-spans .ensures .1))
+    let c8 = c7 .before in
+    rw (c .before .pack .ensures, ← c7 .column-count .ensures)
+    (promised _ _ _ (c8 .pre .1) (c8 .pre .2) _ _ _ (short _ _ (c4 .list-spans .ensures .0)) (c6 .rights .ensures) (c4 .list-spans .ensures .1))
 
 pub place-trunks-spec : {M : Type 1} → statement M
-place-trunks-spec = tie.close (tie.spec rights-requires list-spans-requires pack-requires returns)
+place-trunks-spec = tie.close (tie.spec (λ c κs. search needs) (λ c κs. search needs) (λ c κs. search needs) pack-requires returns)

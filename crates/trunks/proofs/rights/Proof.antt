@@ -14,41 +14,21 @@ Inv-loop north south n right₀ pins q₀ right q = (pins ≡ 2 * n) × (q ≤ p
 abbrev μ-loop : tie.MeasureT-loop
 μ-loop north south n right₀ pins q₀ right q = pins - q
 
-mul-pins : tie.Need-mul-pins Inv-loop μ-loop
-mul-pins c = search needs
-
 loop-holds : tie.Need-loop-holds Inv-loop μ-loop
 loop-holds c = (search needs, search needs, right-starts _)
-
-pin-at-requires : tie.Need-pin-at-requires Inv-loop μ-loop
-pin-at-requires c κs = search needs
-
-wide-requires : tie.Need-wide-requires Inv-loop μ-loop
-wide-requires c κs = search needs
-
-add-column : tie.Need-add-column Inv-loop μ-loop
-add-column c = search needs
-
-add-q : tie.Need-add-q Inv-loop μ-loop
-add-q c = search needs
-
-cast-right : tie.Need-cast-right Inv-loop μ-loop
-cast-right c = search needs
 
 array-write-right : tie.Need-array-write-right Inv-loop μ-loop
 array-write-right c = omega (arith, c .before .wide .ensures, c .before .before .pin-at .ok)
 
-loop-less : tie.Need-loop-less Inv-loop μ-loop
-loop-less c = search needs
-
 loop-again : tie.Need-loop-again Inv-loop μ-loop
 loop-again c =
     let c2 = c .before .before in
-    let c4 = c2 .before .before in
-    (search needs, search needs, right-more _ _ _ _ (c .before .wide .ensures ∙ c2 .pin-at .ensures) (c4 .loop .inv .2) (c .if1 .taken) (array-write-right c))
-
-loop-less-2 : tie.Need-loop-less-2 Inv-loop μ-loop
-loop-less-2 c = search needs
+    let c4 = c2 .before .before in (
+      search needs,
+      search needs,
+      right-more _ _ _ _ (c .before .wide .ensures ∙ c2 .pin-at .ensures) (c4 .loop .inv .2) (c .if1 .taken)
+          (array-write-right c),
+    )
 
 loop-again-2 : tie.Need-loop-again-2 Inv-loop μ-loop
 loop-again-2 c =
@@ -61,20 +41,5 @@ returns c = let e : c .before .loop .q ≡ 2 * c .before .before .args .n = omeg
 
 pub rights-spec : {M : Type 1} → statement M
 rights-spec =
-    tie.close
-    (tie.spec
-    Inv-loop
-    μ-loop
-    mul-pins
-    loop-holds
-    pin-at-requires
-    wide-requires
-    add-column
-    add-q
-    cast-right
-    array-write-right
-    loop-less
-    loop-again
-    loop-less-2
-    loop-again-2
-    returns)
+    tie.close (tie.spec Inv-loop μ-loop (λ c. search needs) loop-holds (λ c κs. search needs) (λ c κs. search needs) (λ c. search needs)
+    (λ c. search needs) (λ c. search needs) array-write-right (λ c. search needs) loop-again (λ c. search needs) loop-again-2 returns)

@@ -48,15 +48,5 @@ returns-2 c =
 
 pub layer-view-spec : {M : Type 1} → statement M
 layer-view-spec =
-    tie.close
-    (tie.spec
-    (λ c κs. search needs)
-    (λ c. search needs)
-    returns
-    index-of-requires
-    area-requires
-    add-to
-    (λ c. search needs)
-    (λ c. search needs)
-    part-result-end
-    returns-2)
+    tie.close (tie.spec (λ c κs. search needs) (λ c. search needs) returns index-of-requires area-requires add-to (λ c. search needs)
+    (λ c. search needs) part-result-end returns-2)

@@ -12,16 +12,10 @@ mul-area c =
     let pre = c .before .pre in
     omega (arith, small (args .f) (args .c) (pre .0) (pre .1))
 
-add-if1 : tie.Need-add-if1
-add-if1 c = search needs
-
 add-t12 : tie.Need-add-t12
 add-t12 c =
     let start = c .before .before in
     omega (arith, small (start .args .f) (start .args .c) (start .pre .0) (start .pre .1))
-
-add-t13 : tie.Need-add-t13
-add-t13 c = search needs
 
 returns : tie.Need-returns
 returns c =
@@ -34,4 +28,4 @@ returns-2 c =
     stay (gridOf (start .args .f)) (start .args .c) (start .pre .1) _
 
 pub above-spec : {M : Type 1} → statement M
-above-spec = tie.close (tie.spec mul-area add-if1 add-t12 add-t13 returns returns-2)
+above-spec = tie.close (tie.spec mul-area (λ c. search needs) add-t12 (λ c. search needs) returns returns-2)

@@ -22,12 +22,6 @@ try-ahead-requires c κs =
     let pre = c .before .before .before .before .before .before .before .before .before .before .before .pre in
     record { fits = pre .0 .points; cell = pre .1; marked = pre .2; holds = refl }
 
-same-length : tie.Need-same-length
-same-length c = search needs
-
-same-length-2 : tie.Need-same-length-2
-same-length-2 c = search needs
-
 returns : tie.Need-returns
 returns c =
     let start = c .before .before .before .before .before .before .before .before .before .before .before .before .before .before in
@@ -40,9 +34,6 @@ try-behind-requires c κs =
     let pre = c .before .before .before .before .before .before .before .before .pre in
     record { fits = pre .0 .points; cell = pre .1; marked = pre .2; holds = refl }
 
-same-length-3 : tie.Need-same-length-3
-same-length-3 c = search needs
-
 returns-2 : tie.Need-returns-2
 returns-2 c =
     let try-behind = c .before .before .try-behind in
@@ -54,9 +45,6 @@ try-above-requires c κs =
     let pre = c .before .before .before .before .before .before .before .before .before .pre in
     record { fits = pre .0 .points; cell = pre .1; marked = pre .2; holds = refl }
 
-same-length-4 : tie.Need-same-length-4
-same-length-4 c = search needs
-
 returns-3 : tie.Need-returns-3
 returns-3 c =
     let try-above = c .before .before .try-above in
@@ -67,9 +55,6 @@ try-below-requires : tie.Need-try-below-requires
 try-below-requires c κs =
     let pre = c .before .before .before .before .before .before .before .before .before .before .pre in
     record { fits = pre .0 .points; cell = pre .1; marked = pre .2; holds = refl }
-
-same-length-5 : tie.Need-same-length-5
-same-length-5 c = search needs
 
 returns-4 : tie.Need-returns-4
 returns-4 c =
@@ -97,17 +82,17 @@ advance-spec =
     shared-slice-read-v
     meet-requires
     try-ahead-requires
-    same-length
-    same-length-2
+    (λ c. search needs)
+    (λ c. search needs)
     returns
     try-behind-requires
-    same-length-3
+    (λ c. search needs)
     returns-2
     try-above-requires
-    same-length-4
+    (λ c. search needs)
     returns-3
     try-below-requires
-    same-length-5
+    (λ c. search needs)
     returns-4
     slice-read-retreat
     retreat-requires

@@ -8,9 +8,6 @@ use Rattle.walk.proofs.Growing.{within, begun}
 use Rattle.walk.proofs.begin.Statement.{statement}
 use Rattle.walk.proofs.begin.Tie as tie
 
-is-of-requires : tie.Need-is-of-requires
-is-of-requires c κs = search needs
-
 shared-slice-read-v : tie.Need-shared-slice-read-v
 shared-slice-read-v c =
     let pre = c .before .before .before .before .before .before .before .pre in
@@ -32,12 +29,6 @@ walk-requires c κs =
     let claim = c .before .before .before .before .before .claim in
     (omega (arith, pre .0, claim .kept), pre .1 .cell)
 
-same-length : tie.Need-same-length
-same-length c = search needs
-
-same-length-2 : tie.Need-same-length-2
-same-length-2 c = search needs
-
 returns : tie.Need-returns
 returns c =
     let start = c .before .before .before .before .before .before .before .before .before .before .before .before .before .before .before .before .before .before .before in
@@ -46,9 +37,6 @@ returns c =
     let if1 = c .before .before .before .before .before .before .before .before .before .before .before .before .before .if1 in
     let walk = c .before .before .before .before .walk in
     grown-then (begun (gridOf (start .args .f)) (now (start .args .p)) (now (start .args .s)) (now (start .args .x)) (now (start .args .m)) (claim .last .1 .0) (start .args .a) (start .args .c) (start .args .flat) _ (start .pre .1) (is-of .ensures .0 (if1 .taken)) (claim .ensures) (within (start .args .f) (now (start .args .x)) (now (start .args .m)) (start .args .c) (start .pre .0 .points) (start .pre .1 .cell) .1)) (walk .ensures)
-
-same-length-3 : tie.Need-same-length-3
-same-length-3 c = search needs
 
 returns-2 : tie.Need-returns-2
 returns-2 c =
@@ -65,14 +53,14 @@ pub begin-spec : {M : Type 1} → statement M
 begin-spec =
     tie.close
     (tie.spec
-    is-of-requires
+    (λ c κs. search needs)
     shared-slice-read-v
     claim-requires
     add-steps
     walk-requires
-    same-length
-    same-length-2
+    (λ c. search needs)
+    (λ c. search needs)
     returns
-    same-length-3
+    (λ c. search needs)
     returns-2
     returns-3)

@@ -6,15 +6,6 @@ use Rattle.walk.proofs.Steps.{stay, step-left, step-back, row-before}
 use Rattle.walk.proofs.behind.Statement.{statement}
 use Rattle.walk.proofs.behind.Tie as tie
 
-is-horizontal-requires : tie.Need-is-horizontal-requires
-is-horizontal-requires c κs = search needs
-
-sub-t12 : tie.Need-sub-t12
-sub-t12 c = search needs
-
-sub-t13 : tie.Need-sub-t13
-sub-t13 c = search needs
-
 returns : tie.Need-returns
 returns c =
     let start = c .before .before .before in
@@ -30,9 +21,6 @@ sub-t15 c =
     let start = c .before .before .before in
     row-before (gridOf (start .args .f)) (start .args .c) (start .pre .1) (c .if3 .taken)
 
-sub-t16 : tie.Need-sub-t16
-sub-t16 c = search needs
-
 returns-3 : tie.Need-returns-3
 returns-3 c =
     let start = c .before .before .before in
@@ -47,12 +35,12 @@ pub behind-spec : {M : Type 1} → statement M
 behind-spec =
     tie.close
     (tie.spec
-    is-horizontal-requires
-    sub-t12
-    sub-t13
+    (λ c κs. search needs)
+    (λ c. search needs)
+    (λ c. search needs)
     returns
     returns-2
     sub-t15
-    sub-t16
+    (λ c. search needs)
     returns-3
     returns-4)

@@ -17,9 +17,6 @@ sub-t10 c =
     let start = c .before .before in
     layer-before (gridOf (start .args .f)) (start .args .c) (start .pre .1) (c .if1 .taken)
 
-sub-t11 : tie.Need-sub-t11
-sub-t11 c = search needs
-
 returns : tie.Need-returns
 returns c =
     let start = c .before .before in
@@ -31,4 +28,4 @@ returns-2 c =
     stay (gridOf (start .args .f)) (start .args .c) (start .pre .1) _
 
 pub below-spec : {M : Type 1} → statement M
-below-spec = tie.close (tie.spec mul-area sub-t10 sub-t11 returns returns-2)
+below-spec = tie.close (tie.spec mul-area sub-t10 (λ c. search needs) returns returns-2)

@@ -5,12 +5,6 @@ use borrow.Author.Needs.{needs}
 use Rattle.walk.proofs.claim_if.Statement.{statement}
 use Rattle.walk.proofs.claim_if.Tie as tie
 
-claim-requires : tie.Need-claim-requires
-claim-requires c κs = search needs
-
-same-length : tie.Need-same-length
-same-length c = search needs
-
 returns : tie.Need-returns
 returns c =
     let if1 = c .before .before .before .before .if1 in
@@ -20,4 +14,4 @@ returns-2 : tie.Need-returns-2
 returns-2 c = (record { yes = λ e. absurd (false≢true e); no = λ e. refl }, λ e. absurd (false≢true e))
 
 pub claim-if-spec : {M : Type 1} → statement M
-claim-if-spec = tie.close (tie.spec claim-requires same-length returns returns-2)
+claim-if-spec = tie.close (tie.spec (λ c κs. search needs) (λ c. search needs) returns returns-2)

@@ -5,9 +5,6 @@ use borrow.Author.Needs.{needs}
 use Rattle.walk.proofs.is_of.Statement.{statement}
 use Rattle.walk.proofs.is_of.Tie as tie
 
-is-horizontal-requires : tie.Need-is-horizontal-requires
-is-horizontal-requires c κs = search needs
-
 returns : tie.Need-returns
 returns c =
     let is-horizontal = c .before .is-horizontal in
@@ -21,4 +18,4 @@ returns-3 : tie.Need-returns-3
 returns-3 c = (λ e. sym (c .before .before .is-horizontal .ensures) ∙ c .before .if1 .left ∙ sym (c .if2 .left), λ e. refl)
 
 pub is-of-spec : {M : Type 1} → statement M
-is-of-spec = tie.close (tie.spec is-horizontal-requires returns returns-2 returns-3)
+is-of-spec = tie.close (tie.spec (λ c κs. search needs) returns returns-2 returns-3)

@@ -10,30 +10,15 @@ use Rattle.walk.proofs.Growing.{met-one, met-then}
 use Rattle.walk.proofs.meet.Statement.{statement}
 use Rattle.walk.proofs.meet.Tie as tie
 
-is-horizontal-requires : tie.Need-is-horizontal-requires
-is-horizontal-requires c κs = search needs
-
-add-claim-if : tie.Need-add-claim-if
-add-claim-if c = search needs
-
 claim-if-requires : tie.Need-claim-if-requires
 claim-if-requires c κs =
     let pre = c .before .before .before .before .before .pre in
     omega (arith, pre)
 
-add-claim-if-2 : tie.Need-add-claim-if-2
-add-claim-if-2 c = search needs
-
-add-claim-if-3 : tie.Need-add-claim-if-3
-add-claim-if-3 c = search needs
-
 claim-if-requires-2 : tie.Need-claim-if-requires-2
 claim-if-requires-2 c κs =
     let pre = c .before .before .before .before .before .before .before .before .before .pre in
     omega (arith, pre, c .before .before .before .claim-if .kept)
-
-same-length : tie.Need-same-length
-same-length c = search needs
 
 returns : tie.Need-returns
 returns c =
@@ -44,24 +29,15 @@ returns c =
     let claim-if2 = c .before .before .claim-if2 in
     met-then (gridOf (start .args .f)) _ _ _ _ _ _ (met-one (gridOf (start .args .f)) (start .args .c) (start .pre .1) (now (start .args .p)) _ (claim-if .last .1 .1 .0) _ (start .args .v) _ _ (claim-if .ensures .0) (omega (arith, start .pre)) (sym (is-horizontal .ensures) ∙ if1 .taken) (λ e. west-tip refl (eqb-true _ _ (claim-if .ensures .1 e)))) (met-one (gridOf (start .args .f)) (start .args .c) (start .pre .1) (now (start .args .p)) _ (claim-if2 .last .1 .1 .0) _ (start .args .v) _ _ (claim-if2 .ensures .0) (omega (arith, start .pre)) (sym (is-horizontal .ensures) ∙ if1 .taken) (λ e. east-tip refl (eqb-true _ _ (claim-if2 .ensures .1 e))))
 
-add-claim-if-4 : tie.Need-add-claim-if-4
-add-claim-if-4 c = search needs
-
 claim-if-requires-3 : tie.Need-claim-if-requires-3
 claim-if-requires-3 c κs =
     let pre = c .before .before .before .before .before .pre in
     omega (arith, pre)
 
-add-claim-if-5 : tie.Need-add-claim-if-5
-add-claim-if-5 c = search needs
-
 claim-if-requires-4 : tie.Need-claim-if-requires-4
 claim-if-requires-4 c κs =
     let pre = c .before .before .before .before .before .before .before .before .before .pre in
     omega (arith, pre, c .before .before .before .claim-if3 .kept)
-
-same-length-2 : tie.Need-same-length-2
-same-length-2 c = search needs
 
 returns-2 : tie.Need-returns-2
 returns-2 c =
@@ -76,17 +52,17 @@ pub meet-spec : {M : Type 1} → statement M
 meet-spec =
     tie.close
     (tie.spec
-    is-horizontal-requires
-    add-claim-if
+    (λ c κs. search needs)
+    (λ c. search needs)
     claim-if-requires
-    add-claim-if-2
-    add-claim-if-3
+    (λ c. search needs)
+    (λ c. search needs)
     claim-if-requires-2
-    same-length
+    (λ c. search needs)
     returns
-    add-claim-if-4
+    (λ c. search needs)
     claim-if-requires-3
-    add-claim-if-5
+    (λ c. search needs)
     claim-if-requires-4
-    same-length-2
+    (λ c. search needs)
     returns-2)

@@ -18,20 +18,11 @@ abbrev μ-loop : tie.MeasureT-loop
 loop-holds : tie.Need-loop-holds Inv-loop μ-loop
 loop-holds c = (refl, refl, grown-none)
 
-sub-rounds : tie.Need-sub-rounds Inv-loop μ-loop
-sub-rounds c = search needs
-
 take-up-all-requires : tie.Need-take-up-all-requires Inv-loop μ-loop
 take-up-all-requires c κs =
     let pre = c .before .before .before .before .before .before .before .before .pre in
     let loop = c .before .before .before .loop in
     omega (arith, pre, loop .inv .0, loop .inv .1)
-
-same-length : tie.Need-same-length Inv-loop μ-loop
-same-length c = search needs
-
-same-length-2 : tie.Need-same-length-2 Inv-loop μ-loop
-same-length-2 c = search needs
 
 returns : tie.Need-returns Inv-loop μ-loop
 returns c =
@@ -39,20 +30,11 @@ returns c =
     let take-up-all = c .before .before .before .before .before .take-up-all in
     grown-then (loop .inv .2) (take-up-all .ensures)
 
-loop-less : tie.Need-loop-less Inv-loop μ-loop
-loop-less c = search needs
-
 loop-again : tie.Need-loop-again Inv-loop μ-loop
 loop-again c =
     let loop = c .before .before .before .before .before .before .before .before .before .loop in
     let take-up-all = c .before .before .before .before .before .take-up-all in
     (search needs, search needs, grown-then (loop .inv .2) (take-up-all .ensures))
-
-same-length-3 : tie.Need-same-length-3 Inv-loop μ-loop
-same-length-3 c = search needs
-
-same-length-4 : tie.Need-same-length-4 Inv-loop μ-loop
-same-length-4 c = search needs
 
 returns-2 : tie.Need-returns-2 Inv-loop μ-loop
 returns-2 c = c .before .loop .inv .2
@@ -64,13 +46,13 @@ spread-spec =
     Inv-loop
     μ-loop
     loop-holds
-    sub-rounds
+    (λ c. search needs)
     take-up-all-requires
-    same-length
-    same-length-2
+    (λ c. search needs)
+    (λ c. search needs)
     returns
-    loop-less
+    (λ c. search needs)
     loop-again
-    same-length-3
-    same-length-4
+    (λ c. search needs)
+    (λ c. search needs)
     returns-2)

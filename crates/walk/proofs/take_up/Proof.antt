@@ -23,19 +23,10 @@ slice-write-s c =
     let pre = c .before .before .before .before .before .before .pre in
     omega (arith, pre)
 
-touch-of-requires : tie.Need-touch-of-requires
-touch-of-requires c κs = search needs
-
-same-length : tie.Need-same-length
-same-length c = search needs
-
 returns-2 : tie.Need-returns-2
 returns-2 c =
     let start = c .before .before .before .before .before .before .before .before .before in
     (remarked (now (start .args .p)) (now (start .args .s)) (now (start .args .x)) (now (start .args .m)) (start .args .a) 2 (omega (arith, start .pre)) (λ z. omega (arith, c .before .before .before .if1 .left)) (λ z. omega arith), search needs)
-
-same-length-2 : tie.Need-same-length-2
-same-length-2 c = search needs
 
 returns-3 : tie.Need-returns-3
 returns-3 c =
@@ -54,9 +45,6 @@ same-length-3 c =
     let walk-from = c .before .before .before .before .walk-from in
     walk-from .kept .1 .0 ∙ simp length-set
 
-same-length-4 : tie.Need-same-length-4
-same-length-4 c = search needs
-
 returns-4 : tie.Need-returns-4
 returns-4 c =
     let start = c .before .before .before .before .before .before .before .before .before .before .before .before .before .before .before .before .before .before in
@@ -71,12 +59,12 @@ take-up-spec =
     slice-read-if1
     returns
     slice-write-s
-    touch-of-requires
-    same-length
+    (λ c κs. search needs)
+    (λ c. search needs)
     returns-2
-    same-length-2
+    (λ c. search needs)
     returns-3
     walk-from-requires
     same-length-3
-    same-length-4
+    (λ c. search needs)
     returns-4)

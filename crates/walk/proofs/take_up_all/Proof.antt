@@ -32,23 +32,11 @@ add-waited c =
     let take-up = c .before .before .before .before .take-up in
     omega (arith, loop .inv .1, loop-test .taken, take-up .ensures .1)
 
-add-a : tie.Need-add-a Inv-loop μ-loop
-add-a c = search needs
-
-loop-less : tie.Need-loop-less Inv-loop μ-loop
-loop-less c = search needs
-
 loop-again : tie.Need-loop-again Inv-loop μ-loop
 loop-again c =
     let loop = c .before .before .before .before .before .before .before .before .loop in
     let take-up = c .before .before .before .before .take-up in
     (search needs, omega (arith, loop .inv .1, take-up .ensures .1), search needs, search needs, grown-then (loop .inv .4) (take-up .ensures .0))
-
-same-length : tie.Need-same-length Inv-loop μ-loop
-same-length c = search needs
-
-same-length-2 : tie.Need-same-length-2 Inv-loop μ-loop
-same-length-2 c = search needs
 
 returns : tie.Need-returns Inv-loop μ-loop
 returns c = c .before .loop .inv .4
@@ -62,9 +50,9 @@ take-up-all-spec =
     loop-holds
     take-up-requires
     add-waited
-    add-a
-    loop-less
+    (λ c. search needs)
+    (λ c. search needs)
     loop-again
-    same-length
-    same-length-2
+    (λ c. search needs)
+    (λ c. search needs)
     returns)

@@ -6,9 +6,6 @@ use Rattle.walk.specs.Walk.{north-tip, south-tip, west-tip, east-tip}
 use Rattle.walk.proofs.touch_of.Statement.{statement}
 use Rattle.walk.proofs.touch_of.Tie as tie
 
-sub-t4 : tie.Need-sub-t4
-sub-t4 c = search needs
-
 returns : tie.Need-returns
 returns c = north-tip refl (omega arith)
 
@@ -18,11 +15,8 @@ returns-2 c = south-tip (omega arith) refl
 returns-3 : tie.Need-returns-3
 returns-3 c = west-tip (omega arith) refl
 
-sub-t7 : tie.Need-sub-t7
-sub-t7 c = search needs
-
 returns-4 : tie.Need-returns-4
 returns-4 c = east-tip (omega arith) (omega arith)
 
 pub touch-of-spec : {M : Type 1} → statement M
-touch-of-spec = tie.close (tie.spec sub-t4 returns returns-2 returns-3 sub-t7 returns-4)
+touch-of-spec = tie.close (tie.spec (λ c. search needs) returns returns-2 returns-3 (λ c. search needs) returns-4)

@@ -7,9 +7,6 @@ use Rattle.walk.proofs.Growing.{within, tried, still-ready, moved-then}
 use Rattle.walk.proofs.try_above.Statement.{statement}
 use Rattle.walk.proofs.try_above.Tie as tie
 
-above-requires : tie.Need-above-requires
-above-requires c κs = search needs
-
 slice-read-claim-if : tie.Need-slice-read-claim-if
 slice-read-claim-if c =
     let start = c .before .before .before .before in
@@ -20,9 +17,6 @@ claim-if-requires c κs =
     let start = c .before .before .before .before .before in
     let above = c .before .before .above in
     within (start .args .f) (now (start .args .x)) (now (start .args .m)) (above .result) (start .pre .fits) (above .ensures .cell)
-
-same-length : tie.Need-same-length
-same-length c = search needs
 
 returns : tie.Need-returns
 returns c =
@@ -38,9 +32,6 @@ try-below-requires c κs =
     let above = c .before .before .before .before .before .before .before .above in
     still-ready (start .args .f) (now (start .args .x)) (now (start .args .m)) (claim .last .1 .1 .0) (start .args .c) (start .args .v) (start .pre) (tried (start .args .f) (now (start .args .x)) (now (start .args .m)) (claim .last .1 .1 .0) (start .args .c) (above .result) (start .args .v) _ _ (start .pre) (above .ensures) (claim .ensures .0) (λ z. omega arith)) (claim .kept .1 .1 .0)
 
-same-length-2 : tie.Need-same-length-2
-same-length-2 c = search needs
-
 returns-2 : tie.Need-returns-2
 returns-2 c =
     let start = c .before .before .before .before .before .before .before .before .before .before .before .before .before in
@@ -52,11 +43,11 @@ pub try-above-spec : {M : Type 1} → statement M
 try-above-spec =
     tie.close
     (tie.spec
-    above-requires
+    (λ c κs. search needs)
     slice-read-claim-if
     claim-if-requires
-    same-length
+    (λ c. search needs)
     returns
     try-below-requires
-    same-length-2
+    (λ c. search needs)
     returns-2)

@@ -6,9 +6,6 @@ use Rattle.walk.proofs.Growing.{tried, within}
 use Rattle.walk.proofs.try_below.Statement.{statement}
 use Rattle.walk.proofs.try_below.Tie as tie
 
-below-requires : tie.Need-below-requires
-below-requires c κs = search needs
-
 slice-read-claim-if : tie.Need-slice-read-claim-if
 slice-read-claim-if c =
     let start = c .before .before .before .before in
@@ -19,9 +16,6 @@ claim-if-requires c κs =
     let start = c .before .before .before .before .before in
     let below = c .before .before .below in
     within (start .args .f) (now (start .args .x)) (now (start .args .m)) (below .result) (start .pre .fits) (below .ensures .cell)
-
-same-length : tie.Need-same-length
-same-length c = search needs
 
 returns : tie.Need-returns
 returns c =
@@ -36,12 +30,6 @@ slice-read-retreat c =
     let claim = c .before .before .before .before .claim-if in
     omega (arith, within (start .args .f) (now (start .args .x)) (now (start .args .m)) (start .args .c) (start .pre .fits) (start .pre .cell), claim .kept)
 
-retreat-requires : tie.Need-retreat-requires
-retreat-requires c κs = search needs
-
-same-length-2 : tie.Need-same-length-2
-same-length-2 c = search needs
-
 returns-2 : tie.Need-returns-2
 returns-2 c =
     let start = c .before .before .before .before .before .before .before .before .before .before .before in
@@ -53,12 +41,12 @@ pub try-below-spec : {M : Type 1} → statement M
 try-below-spec =
     tie.close
     (tie.spec
-    below-requires
+    (λ c κs. search needs)
     slice-read-claim-if
     claim-if-requires
-    same-length
+    (λ c. search needs)
     returns
     slice-read-retreat
-    retreat-requires
-    same-length-2
+    (λ c κs. search needs)
+    (λ c. search needs)
     returns-2)

@@ -22,29 +22,14 @@ loop-holds c =
     let pre = c .before .before .before .before .pre in
     (refl, refl, pre .1, grown-none)
 
-sub-left : tie.Need-sub-left Inv-loop μ-loop
-sub-left c = search needs
-
 slice-read-if1 : tie.Need-slice-read-if1 Inv-loop μ-loop
 slice-read-if1 c =
     let start = c .before .before .before .before .before .before .before in
     let loop = c .before .before .loop in
     omega (arith, small (start .args .f) (loop .here) (start .pre .0 .points .shape) (loop .inv .2), start .pre, loop .inv .1)
 
-same-length : tie.Need-same-length Inv-loop μ-loop
-same-length c = search needs
-
-same-length-2 : tie.Need-same-length-2 Inv-loop μ-loop
-same-length-2 c = search needs
-
 returns : tie.Need-returns Inv-loop μ-loop
 returns c = c .before .before .before .loop .inv .3
-
-same-length-3 : tie.Need-same-length-3 Inv-loop μ-loop
-same-length-3 c = search needs
-
-same-length-4 : tie.Need-same-length-4 Inv-loop μ-loop
-same-length-4 c = search needs
 
 returns-2 : tie.Need-returns-2 Inv-loop μ-loop
 returns-2 c =
@@ -58,20 +43,11 @@ advance-requires c κs =
     let if1 = c .before .before .before .before .if1 in
     (omega (arith, pre, loop .inv .0, loop .inv .1), loop .inv .2, if1 .left)
 
-loop-less : tie.Need-loop-less Inv-loop μ-loop
-loop-less c = search needs
-
 loop-again : tie.Need-loop-again Inv-loop μ-loop
 loop-again c =
     let advance = c .before .before .before .before .advance in
     let loop = c .before .before .before .before .before .before .before .before .before .before .before .before .loop in
     (search needs, search needs, advance .ensures .cell, grown-then (loop .inv .3) (advance .ensures .grown))
-
-same-length-5 : tie.Need-same-length-5 Inv-loop μ-loop
-same-length-5 c = search needs
-
-same-length-6 : tie.Need-same-length-6 Inv-loop μ-loop
-same-length-6 c = search needs
 
 returns-3 : tie.Need-returns-3 Inv-loop μ-loop
 returns-3 c = c .before .loop .inv .3
@@ -83,17 +59,17 @@ walk-spec =
     Inv-loop
     μ-loop
     loop-holds
-    sub-left
+    (λ c. search needs)
     slice-read-if1
-    same-length
-    same-length-2
+    (λ c. search needs)
+    (λ c. search needs)
     returns
-    same-length-3
-    same-length-4
+    (λ c. search needs)
+    (λ c. search needs)
     returns-2
     advance-requires
-    loop-less
+    (λ c. search needs)
     loop-again
-    same-length-5
-    same-length-6
+    (λ c. search needs)
+    (λ c. search needs)
     returns-3)

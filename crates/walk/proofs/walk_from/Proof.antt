@@ -53,24 +53,12 @@ add-q-2 c =
     let loop-test = c .before .before .before .before .before .before .before .loop-test in
     omega (arith, small (start .args .f) (record { q = loop .q; i = start .args .i; j = start .args .j; l = loop .l; d = 1 }) (start .pre .0 .points .shape) (record { column = start .pre .3; track = start .pre .4; layer = loop-test .taken; is = loop .inv .1 }))
 
-add-l : tie.Need-add-l Inv-loop μ-loop
-add-l c = search needs
-
-loop-less : tie.Need-loop-less Inv-loop μ-loop
-loop-less c = search needs
-
 loop-again : tie.Need-loop-again Inv-loop μ-loop
 loop-again c =
     let loop = c .before .before .before .before .before .before .before .before .loop in
     let args = c .before .before .before .before .before .before .before .before .before .before .before .before .before .before .before .args in
     let begin = c .before .before .before .before .begin in
     (search needs, omega (arith, loop .inv .1, next-row (loop .l) (args .f .n * args .f .w)), search needs, search needs, begin .ensures .keep (a-pin (args .a)) (loop .inv .4), grown-then (loop .inv .5) (begin .ensures))
-
-same-length : tie.Need-same-length Inv-loop μ-loop
-same-length c = search needs
-
-same-length-2 : tie.Need-same-length-2 Inv-loop μ-loop
-same-length-2 c = search needs
 
 returns : tie.Need-returns Inv-loop μ-loop
 returns c = c .before .loop .inv .5
@@ -87,9 +75,9 @@ walk-from-spec =
     loop-holds
     begin-requires
     add-q-2
-    add-l
-    loop-less
+    (λ c. search needs)
+    (λ c. search needs)
     loop-again
-    same-length
-    same-length-2
+    (λ c. search needs)
+    (λ c. search needs)
     returns)

@@ -5,7 +5,9 @@
 use slow::judge;
 use slow::tickets::{self, damaged, encode, of_shape, Numbers, Places, DOCUMENT};
 use slow::wirings::{case, layered, spoiled, wired, Case};
-use slow::{read, survey, EAST, NORTH, SOUTH, WEST};
+use slow::{
+    lay, read, survey, BOX, CHANNEL, EAST, LARGEST_NET, LONGEST_SIDE, MOST_LAYERS, MOST_TRUNK_LAYERS, NORTH, ROW, SOUTH, WEST, WIDEST_GRID,
+};
 use std::path::Path;
 
 fn record(t: &[u8]) -> Vec<u8> {
@@ -27,34 +29,36 @@ fn read_tickets() -> Vec<Vec<u8>> {
     let r = &mut Numbers::new(3);
     let mut out = vec![vec![]];
     out.extend(document());
-    let large = of_shape(r, 3, 13, 9, 7);
+    let large = of_shape(r, BOX, 13, 9, 7);
     for t in [DOCUMENT[0].1, DOCUMENT[4].1, DOCUMENT[8].1, &large] {
         out.extend((0..=t.len()).map(|size| t[..size].to_vec()));
     }
-    for kind in [0, 1, 2, 3, 4, 128, 255] {
+    for kind in [0, ROW, CHANNEL, BOX, BOX + 1, 128, 255] {
         out.extend([0, 1, 2, 3, 4, 15, 16, 255].map(|sides| vec![kind, 2, 1, sides]));
     }
-    for kind in 1..=3 {
-        for n in [0, 1, 90, 91, 255] {
-            out.extend([0, 1, 8, 9, 90, 91].map(|byte2| vec![kind, n, byte2, 0]));
+    let (longest, most) = (LONGEST_SIDE as u8, MOST_TRUNK_LAYERS as u8);
+    for kind in [ROW, CHANNEL, BOX] {
+        for n in [0, 1, longest, longest + 1, 255] {
+            out.extend([0, 1, most, most + 1, longest, longest + 1].map(|byte2| vec![kind, n, byte2, 0]));
         }
     }
-    for places in [1u8, 7, 8, 9, 15, 16, 17, 89, 90] {
+    for places in [1, 7, 8, 9, 15, 16, 17, longest - 1, longest] {
         for last in [0u8, 1, 2, 3, 4, 127, 128, 255] {
-            let mut t = vec![1, places, 1, 1];
+            let mut t = vec![ROW, places, 1, 1];
             t.extend(vec![0; places.div_ceil(8) as usize - 1]);
             t.push(last);
             t.extend(vec![1; last.count_ones() as usize]);
             out.push(t);
         }
     }
-    for net in [0, 1, 180, 181, 255] {
-        out.push(vec![1, 3, 1, 1, 7, 1, 1, net]);
-        out.push(vec![1, 3, 1, 1, 7, net, net, 5]);
-        out.push(vec![1, 2, 1, 1, 3, net]);
+    for net in [0, 1, LARGEST_NET, LARGEST_NET + 1, 255] {
+        out.push(vec![ROW, 3, 1, 1, 7, 1, 1, net]);
+        out.push(vec![ROW, 3, 1, 1, 7, net, net, 5]);
+        out.push(vec![ROW, 2, 1, 1, 3, net]);
     }
-    let full: Places = (0..4).flat_map(|s| (1..=90).map(move |i| ((s, i), ((i + s) % 180 + 1) as u8))).collect();
-    let full = encode(3, 90, 90, &full);
+    let net = |s: usize, i: usize| ((i + s) % LARGEST_NET as usize + 1) as u8;
+    let full: Places = [NORTH, SOUTH, WEST, EAST].into_iter().flat_map(|s| (1..=LONGEST_SIDE).map(move |i| ((s, i), net(s, i)))).collect();
+    let full = encode(BOX, LONGEST_SIDE, LONGEST_SIDE, &full);
     out.push(full[..full.len() - 1].to_vec());
     out.push([&full[..], &[1]].concat());
     out.push(full);
@@ -70,7 +74,10 @@ fn survey_tickets() -> Vec<Vec<u8>> {
     let mut out = vec![vec![]];
     out.extend(document());
     out.push(vec![0; 1000]);
-    for (kind, n, byte2) in [(1, 90, 1), (1, 90, 8), (2, 90, 1), (2, 90, 3), (3, 90, 90), (3, 90, 1), (3, 1, 90), (3, 40, 12), (3, 89, 90), (3, 1, 1)] {
+    let (side, most) = (LONGEST_SIDE, MOST_TRUNK_LAYERS);
+    let trunks = [(ROW, side, 1), (ROW, side, most), (CHANNEL, side, 1), (CHANNEL, side, 3)];
+    let boxes = [(side, side), (side, 1), (1, side), (40, 12), (side - 1, side), (1, 1)].map(|(n, w)| (BOX, n, w));
+    for (kind, n, byte2) in trunks.into_iter().chain(boxes) {
         out.extend([0, 5, 10].map(|tenths| of_shape(r, kind, n, byte2, tenths)));
     }
     for (a, b) in [(NORTH, EAST), (NORTH, WEST), (SOUTH, EAST), (SOUTH, WEST)] {
@@ -87,8 +94,8 @@ fn survey_tickets() -> Vec<Vec<u8>> {
 /// K1 to K3 of the document, joins only through a pin, the order of tracks, 255 layers, empty tickets, and large combs.
 fn drawn_cases() -> Vec<Case> {
     let pins = |list: &[(usize, usize, u8)]| list.iter().map(|(s, i, m)| ((*s, *i), *m)).collect::<Places>();
-    let row2 = encode(1, 2, 1, &pins(&[(NORTH, 1, 1), (NORTH, 2, 1)]));
-    let row3 = encode(1, 3, 1, &pins(&[(NORTH, 1, 1), (NORTH, 2, 1)]));
+    let row2 = encode(ROW, 2, 1, &pins(&[(NORTH, 1, 1), (NORTH, 2, 1)]));
+    let row3 = encode(ROW, 3, 1, &pins(&[(NORTH, 1, 1), (NORTH, 2, 1)]));
     let mut out = vec![
         case(&row2, 1, 2, false, vec![1, 1, 1, 1]),
         case(&row2, 1, 2, false, vec![1, 1, 0, 0]),
@@ -99,7 +106,7 @@ fn drawn_cases() -> Vec<Case> {
         out.push(case(&row2, 1, 2, false, vec![1, 1, 1, a % 3]));
         out.push(case(&row2, 1, 2, false, vec![a % 3, 1, a, a]));
     }
-    let through = encode(3, 2, 3, &pins(&[(NORTH, 1, 7), (WEST, 1, 7), (NORTH, 2, 9), (SOUTH, 2, 9)]));
+    let through = encode(BOX, 2, 3, &pins(&[(NORTH, 1, 7), (WEST, 1, 7), (NORTH, 2, 9), (SOUTH, 2, 9)]));
     for (low, top) in [(1, 3), (1, 2), (2, 3), (2, 2)] {
         let x = layered(2, 3, 5, |i, j, l| match (i, l) {
             (1, 1) | (1, 5) => 7,
@@ -109,31 +116,33 @@ fn drawn_cases() -> Vec<Case> {
         });
         out.push(case(&through, 3, 5, false, x));
     }
-    let south = encode(2, 2, 1, &pins(&[(SOUTH, 1, 4), (SOUTH, 2, 4)]));
+    let south = encode(CHANNEL, 2, 1, &pins(&[(SOUTH, 1, 4), (SOUTH, 2, 4)]));
     for track in 1..=3 {
         for first in [false, true] {
             out.push(case(&south, 3, 2, first, layered(2, 3, 2, |_, j, _| if j == track { 4 } else { 0 })));
         }
     }
-    let tower = encode(2, 2, 1, &pins(&[(NORTH, 1, 180), (SOUTH, 2, 180)]));
+    let tower = encode(CHANNEL, 2, 1, &pins(&[(NORTH, 1, LARGEST_NET), (SOUTH, 2, LARGEST_NET)]));
     for first in [false, true] {
-        for hole in [0, 1, 128, 255] {
-            out.push(case(&tower, 1, 255, first, layered(2, 1, 255, |_, _, l| if l != hole { 180 } else { 0 })));
+        for hole in [0, 1, 128, MOST_LAYERS] {
+            let x = layered(2, 1, MOST_LAYERS, |_, _, l| if l != hole { LARGEST_NET } else { 0 });
+            out.push(case(&tower, 1, MOST_LAYERS, first, x));
         }
     }
-    for kind in 1..=3 {
+    for kind in [ROW, CHANNEL, BOX] {
         let empty = encode(kind, 3, 2, &Places::new());
         out.push(case(&empty, 2, 2, false, vec![0; 12]));
         out.push(case(&empty, 2, 2, true, layered(3, 2, 2, |i, j, l| if i + j + l == 7 { 5 } else { 0 })));
     }
-    let wide: Places = (1..=90).map(|i| ((NORTH, i), 1 + (i as u8 - 1) / 2)).collect();
-    let wide = encode(1, 90, 1, &wide);
-    for missing in [None, Some(0), Some(90 * 45), Some(90 * 90 * 2 - 1)] {
-        let mut x = layered(90, 90, 2, |i, _, _| 1 + (i as u8 - 1) / 2);
+    let wide: Places = (1..=LONGEST_SIDE).map(|i| ((NORTH, i), 1 + (i as u8 - 1) / 2)).collect();
+    let wide = encode(ROW, LONGEST_SIDE, 1, &wide);
+    let area = LONGEST_SIDE * WIDEST_GRID;
+    for missing in [None, Some(0), Some(area / 2), Some(2 * area - 1)] {
+        let mut x = layered(LONGEST_SIDE, WIDEST_GRID, 2, |i, _, _| 1 + (i as u8 - 1) / 2);
         if let Some(q) = missing {
             x[q] = 0;
         }
-        out.push(case(&wide, 90, 2, false, x));
+        out.push(case(&wide, WIDEST_GRID, 2, false, x));
     }
     out
 }
@@ -143,8 +152,8 @@ fn refused_cases(r: &mut Numbers) -> Vec<Case> {
     let mut out = Vec::new();
     for _ in 0..4 {
         let c = wired(r);
-        for w in [0, 1, c.w, 90, 91, 65535] {
-            out.extend([0, 1, c.k, 255, 256, 65535].map(|k| case(&c.ticket, w, k, c.first, c.wiring.clone())));
+        for w in [0, 1, c.w, WIDEST_GRID, WIDEST_GRID + 1, 65535] {
+            out.extend([0, 1, c.k, MOST_LAYERS, MOST_LAYERS + 1, 65535].map(|k| case(&c.ticket, w, k, c.first, c.wiring.clone())));
         }
         let with = |scratch: usize, x: &[u8]| Case { scratch, ..case(&c.ticket, c.w, c.k, c.first, x.to_vec()) };
         let size = c.wiring.len();
@@ -157,7 +166,7 @@ fn refused_cases(r: &mut Numbers) -> Vec<Case> {
         out.push(Case { w: 0, ..with(0, &[]) });
         out.push(Case { ticket: c.ticket[..c.ticket.len() - 1].to_vec(), k: 0, ..with(0, &c.wiring) });
     }
-    let t = of_shape(r, 3, 4, 3, 5);
+    let t = of_shape(r, BOX, 4, 3, 5);
     out.extend([2, 3, 4].map(|w| case(&t, w, 2, false, vec![0; 24])));
     out
 }
@@ -197,11 +206,13 @@ fn check_record(c: &Case) -> Vec<u8> {
 fn lay_cases() -> Vec<(Vec<u8>, usize)> {
     let r = &mut Numbers::new(17);
     let mut tickets = document();
-    for (kind, n, byte2) in [(1, 1, 1), (1, 90, 1), (1, 90, 8), (2, 1, 8), (2, 90, 1), (2, 90, 8)] {
+    let (side, most) = (LONGEST_SIDE, MOST_TRUNK_LAYERS);
+    for (kind, n, byte2) in [(ROW, 1, 1), (ROW, side, 1), (ROW, side, most), (CHANNEL, 1, most), (CHANNEL, side, 1), (CHANNEL, side, most)]
+    {
         tickets.extend([0, 4, 10].map(|tenths| of_shape(r, kind, n, byte2, tenths)));
     }
-    for (n, w) in [(1, 1), (1, 90), (90, 1), (89, 90), (90, 90), (90, 89), (40, 12), (12, 40), (7, 3), (3, 7)] {
-        tickets.extend([0, 3, 8, 10].map(|tenths| of_shape(r, 3, n, w, tenths)));
+    for (n, w) in [(1, 1), (1, side), (side, 1), (side - 1, side), (side, side), (side, side - 1), (40, 12), (12, 40), (7, 3), (3, 7)] {
+        tickets.extend([0, 3, 8, 10].map(|tenths| of_shape(r, BOX, n, w, tenths)));
     }
     for (a, b) in [(NORTH, EAST), (NORTH, WEST), (SOUTH, EAST), (SOUTH, WEST)] {
         for (n, w) in [(9, 9), (13, 5), (5, 13), (30, 30)] {
@@ -214,7 +225,7 @@ fn lay_cases() -> Vec<(Vec<u8>, usize)> {
     }
     let mut out = Vec::new();
     for t in tickets {
-        let size = read::read(&t).map_or(0, |t| t.n * survey::figures(&t).w * survey::figures(&t).layers);
+        let size = read::read(&t).map_or(0, |t| lay::grid(&t).size());
         for length in [size, size.saturating_sub(1), size + 1 + r.below(9), r.below(size + 1)] {
             if size > 0 || length == 0 {
                 out.push((t.clone(), length));
@@ -230,19 +241,18 @@ fn lay_record((t, length): &(Vec<u8>, usize)) -> Vec<u8> {
     out
 }
 
-/// number, place, kind, n, w, k, first, nets, across, up, floor; then Check's number and place of the wiring, and whether the bytes outside it were kept.
+/// number, place, kind, n, w, k, first, nets, across, up, floor; then Check's number and place of the wiring, and whether the
+/// bytes outside it were kept.
 fn lay_row((t, length): &(Vec<u8>, usize)) -> String {
     let refused = |number: u64, place: usize| row(&[number, place as u64, 0, 0, 0, 0, 0, 0, 0, 0, 0, 0, 0, 1]);
     match read::read(t) {
         Err(slow::Refusal(number, place)) => refused(number as u64, place),
         Ok(ticket) => {
-            let f = survey::figures(&ticket);
-            let size = ticket.n * f.w * f.layers;
-            if *length < size {
-                return refused(10, size);
+            let (g, f) = (lay::grid(&ticket), survey::figures(&ticket));
+            if *length < g.size() {
+                return refused(10, g.size());
             }
-            let first = ticket.kind == 3 && ticket.n < f.w;
-            let fields = [0, 0, ticket.kind as usize, ticket.n, f.w, f.layers, first as usize, f.nets, f.across, f.up, f.floor, 0, 0, 1];
+            let fields = [0, 0, ticket.kind as usize, g.n, g.w, g.k, g.first as usize, f.nets, f.across, f.up, f.floor, 0, 0, 1];
             row(&fields.map(|x| x as u64))
         }
     }

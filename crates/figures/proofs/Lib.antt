@@ -1,0 +1,4 @@
+pub mod Flags
+pub mod Sweep
+pub mod Across
+pub mod Bounds

@@ -1,0 +1,26 @@
+-- The figures of a problem, by kind.
+--
+--   figuresOf q   w: for a row and a channel "the larger of 1 and across/h rounded up", for a box its own; across; up, and the floor with
+--                 "a = across/w rounded up and b = up/n rounded up": "Up and the floor belong to boxes only"; the layers that Lay uses
+use Prim.Native.Nat.{ℕ}
+use Rattle.terms.specs.Kinds.{byKind, layersFor}
+use Rattle.density.specs.Density.{across, up, tracksFor, floorOf}
+use Rattle.problem.specs.declared.Problem.{Problem}
+use Rattle.problem.specs.Problem.{pinsIn, shapeOf}
+use Rattle.figures.specs.declared.Figures.{Figures}
+
+abbrev pub acrossOf : Problem → ℕ
+acrossOf q = across (shapeOf q) (pinsIn (q .pins))
+
+abbrev pub tracksOf : Problem → ℕ
+tracksOf q = tracksFor (q .byte2) (acrossOf q)
+
+unfoldable pub figuresOf : Problem → Figures
+figuresOf q =
+    record {
+      w = record { 0 = byKind (q .kind) 0 (tracksOf q) (tracksOf q) (q .byte2) };
+      across = acrossOf q;
+      up = byKind (q .kind) 0 0 0 (up (shapeOf q) (pinsIn (q .pins)));
+      layers = record { 0 = layersFor (q .kind) (q .n .0) (q .byte2) };
+      floor = record { 0 = byKind (q .kind) 0 0 0 (floorOf (shapeOf q) (pinsIn (q .pins))) };
+    }
