@@ -9,17 +9,18 @@ use native.Mathlib.Decide.{decLt}
 use lib.ListN.{length, List·getD-eq-default}
 use Rattle.counting.specs.Counting.{In}
 use Rattle.terms.specs.Kinds.{Side, north, south, west, east}
+use Rattle.terms.specs.declared.Refusal.{Refusal}
+use Rattle.terms.specs.Refusals.{refusal}
+use Rattle.terms.specs.Limits.{longestSide, widestGrid, byteValues}
 use Rattle.grid.specs.Grid.{Grid, Node, pin, point, places}
 use Rattle.grid.specs.Legal.{Pins, Wiring, Held, Legal, wiringOf, index}
 use Rattle.grid.proofs.Buffer.{point-at}
 use Rattle.sweep.specs.Marks.{at, Spot, a-pin, a-point, val}
 use Rattle.sweep.specs.Edges.{pinAt, pinPlaces}
-use Rattle.terms.specs.Refusals.{refusal}
 use Rattle.sweep.proofs.Places.{spot}
 use Rattle.checker.specs.Check.{Foreign, FirstForeign, OnePiece, Broken, Judged}
 use Rattle.checker.specs.Marking.{Listed, Opened, FirstUnknown, Torn, noNet}
 use Rattle.checker.proofs.Verdict.{Hub, hub, one-piece, broken}
-use Rattle.terms.specs.Limits.{longestSide, widestGrid, byteValues}
 
 pin-in : (g : Grid) → g .n ≤ longestSide → g .w ≤ widestGrid → (s : Side) (a : ℕ) → In a (places g s) → pinAt s a < pinPlaces
 pin-in g n w north a i = omega arith
@@ -30,7 +31,7 @@ pin-in g n w east a i = omega arith
 inside-list : (x : List ℕ) (q : ℕ) → at x q ≢ 0 → q < length x
 inside-list x q ne = elim (decLt q (length x)) [ yes h ↦ h | no n ↦ absurd (ne (List·getD-eq-default x 0 (omega arith))) ]
 
-module _ (g : Grid) (p : Pins) (P X : List ℕ) (listed : Listed g p P) (size : length X ≡ g .n * g .w * g .k) where
+module _ {g : Grid} {p : Pins} {P : List ℕ} (X : List ℕ) (listed : Listed g p P) (size : length X ≡ g .n * g .w * g .k) where
   abbrev x : Wiring
   x = wiringOf g X
 
@@ -47,7 +48,7 @@ module _ (g : Grid) (p : Pins) (P X : List ℕ) (listed : Listed g p P) (size : 
 
   -- ---- foreign points
 
-  module _ (s k : List ℕ) (opened : Opened P s k pinPlaces) (bytes : (q : ℕ) → at X q < byteValues) where
+  module _ {s k : List ℕ} (opened : Opened P s k pinPlaces) (bytes : (q : ℕ) → at X q < byteValues) where
     holder : (q : ℕ) → at k (at X q) ≢ 0 → at X q ≢ 0 → (b : ℕ) × (at P b ≡ at X q)
     holder q h ne = ⊎-elim (λ z. absurd (ne z)) (λ o. (o .0, o .2)) (opened .known (at X q) (bytes q) h)
 
@@ -62,16 +63,17 @@ module _ (g : Grid) (p : Pins) (P X : List ℕ) (listed : Listed g p P) (size : 
         let u = opened .unknown (at X q) (bytes q) z in
         record { metal = u .0; no-pin = λ s a i e. u .1 (pinAt s a, pin-in g (listed .long .1) (listed .wide .1) s a i, sym (listed .there s a i) ∙ e) }
 
-    pub judged-foreign : (q : ℕ) → FirstUnknown k X q → q < length X → Judged g p X (refusal 14 q)
-    judged-foreign q f h =
-        let first : FirstForeign g p X q = record { point = h; foreign = is-foreign q (f .found h); first = λ r l. not-foreign r (f .before r l) } in
+    pub judged-foreign : {q : ℕ} {a : Refusal} → a ≡ refusal 14 q → FirstUnknown k X q → q < length X → Judged g p X a
+    judged-foreign {q} is f h =
+        subst (Judged g p X) (sym is)
+        (let first : FirstForeign g p X q = record { point = h; foreign = is-foreign q (f .found h); first = λ r l. not-foreign r (f .before r l) } in
         record {
           accepts = (λ e. absurd (omega arith), λ legal. absurd (spoilt legal first));
           number = inr (inl refl);
           place = λ e. absurd (omega arith);
           foreign = λ e. first;
           broken = λ e. absurd (omega arith);
-        }
+        })
       where
         spoilt : Legal g p x → FirstForeign g p X q → ⊥
         spoilt legal first =
@@ -81,7 +83,7 @@ module _ (g : Grid) (p : Pins) (P X : List ℕ) (listed : Listed g p P) (size : 
 
     -- ---- nets
 
-    module _ (r : ℕ) (all : FirstUnknown k X r) (end : r ≡ length X) where
+    module _ {r : ℕ} (all : FirstUnknown k X r) (end : r ≡ length X) where
       known : (q : ℕ) → q < length X → at k (at X q) ≢ 0
       known q h = all .before q (omega arith)
 
@@ -99,13 +101,13 @@ module _ (g : Grid) (p : Pins) (P X : List ℕ) (listed : Listed g p P) (size : 
       net-small : (m : ℕ) → m ≢ 0 → (a : Spot) → val P X a ≡ m → m < noNet
       net-small m ne a e = let (b, o) = net-pin m ne a e in omega (arith, listed .small b)
 
-      module _ (t : ℕ) (torn : Torn g P X t) where
-        at-hub : (m : ℕ) → m ≢ 0 → (a : Spot) → val P X a ≡ m → Hub g p P X (torn .s) (torn .m) listed (torn .marking) m
-        at-hub m ne a e = let (b, o) = net-pin m ne a e in hub g p P X (torn .s) (torn .m) listed (torn .marking) m ne b o
+      module _ {t : ℕ} (torn : Torn g P X t) where
+        at-hub : (m : ℕ) → m ≢ 0 → (a : Spot) → val P X a ≡ m → Hub listed (torn .marking) m
+        at-hub m ne a e = let (b, o) = net-pin m ne a e in hub listed (torn .marking) ne b o
 
         pieces : (m : ℕ) → m ≢ 0 → (t ≡ 0) ⊎ (m < t) → OnePiece g p x m
         pieces m ne o u v a b =
-            one-piece g p P X (torn .s) (torn .m) listed (torn .marking) m (at-hub m ne (spot g u) (held-value m u a))
+            one-piece listed (torn .marking) (at-hub m ne (spot g u) (held-value m u a))
             (λ z c. marked z (held-value m z c)) u v a b
           where
             marked : (z : Node) → val P X (spot g z) ≡ m → val (torn .s) (torn .m) (spot g z) ≢ 0
@@ -119,15 +121,16 @@ module _ (g : Grid) (p : Pins) (P X : List ℕ) (listed : Listed g p P) (size : 
             let (u, h, o) = point-of q (inside-list X q (λ z. ne (sym e ∙ z))) in
             (u, subst (λ (z : ℕ). Held g p x z u) e h, o)
 
-        pub judged-legal : t ≡ 0 → Judged g p X (refusal 0 0)
-        judged-legal z =
-            record {
+        pub judged-legal : {a : Refusal} → a ≡ refusal 0 0 → t ≡ 0 → Judged g p X a
+        judged-legal is z =
+            subst (Judged g p X) (sym is)
+            (record {
               accepts = (λ e. legal, λ l. refl);
               number = inl refl;
               place = λ e. refl;
               foreign = λ e. absurd (omega arith);
               broken = λ e. absurd (omega arith);
-            }
+            })
           where
             legal : Legal g p x
             legal =
@@ -139,18 +142,19 @@ module _ (g : Grid) (p : Pins) (P X : List ℕ) (listed : Listed g p P) (size : 
                   whole = λ m u v ne. pieces m ne (inl z) u v;
                 }
 
-        pub judged-broken : t ≢ 0 → Judged g p X (refusal 15 t)
-        judged-broken ne =
-            record {
+        pub judged-broken : {a : Refusal} → a ≡ refusal 15 t → t ≢ 0 → Judged g p X a
+        judged-broken is ne =
+            subst (Judged g p X) (sym is)
+            (record {
               accepts = (λ e. absurd (omega arith), λ l. absurd (b .apart (l .whole t (b .one) (b .other) ne (b .held-one) (b .held-other))));
               number = inr (inr refl);
               place = λ e. absurd (omega arith);
               foreign = λ e. absurd (omega arith);
               broken = λ e. record { known = λ q h. not-foreign q (known q h); net = ne; broken = b; first = λ o nz h. pieces o nz (inr h) };
-            }
+            })
           where
             b : Broken g p x t
             b =
                 let (a, e, z) = torn .lowest .has ne in
                 let (u, h, o) = node-of t ne a e in
-                broken g p P X (torn .s) (torn .m) listed (torn .marking) t (at-hub t ne a e) u h (ap (val (torn .s) (torn .m)) o ∙ z)
+                broken listed (torn .marking) (at-hub t ne a e) u h (ap (val (torn .s) (torn .m)) o ∙ z)

@@ -11,6 +11,7 @@ use lib.Seq.{getD-set-same, getD-set-other}
 use Rattle.counting.specs.Counting.{In}
 use Rattle.terms.specs.Kinds.{Side, north, south, west, east, box, hasSide}
 use Rattle.terms.specs.Limits.{largestNet, longestSide}
+use Rattle.terms.proofs.Laws.{Known, is-row, is-channel, is-box, known, of-box}
 use Rattle.grid.specs.Grid.{Grid, places}
 use Rattle.grid.specs.Legal.{entry}
 use Rattle.problem.specs.Problem.{pinsIn, Good, shapeOf}
@@ -19,7 +20,6 @@ use Rattle.problem.specs.declared.Problem.{Problem}
 use Rattle.sweep.specs.Marks.{at}
 use Rattle.sweep.specs.Edges.{pinAt, pinPlaces, southStart, westStart, eastStart}
 use Rattle.checker.specs.Marking.{PinList, Listed, Put}
-use Rattle.terms.proofs.Laws.{Known, is-row, is-channel, is-box, known, of-box}
 
 -- ---- one side after the other
 
@@ -53,7 +53,8 @@ pub pin-list : (pins : TicketPins) (l₀ l₁ l₂ l₃ r : List ℕ) → length
 pin-list pins l₀ l₁ l₂ l₃ r e a b c d =
     record {
       size = omega (arith, a .size, b .size, c .size, d .size);
-      north = λ i h. d .outside i (inl (omega arith)) ∙ c .outside i (inl (omega arith)) ∙ b .outside i (inl (omega arith)) ∙ ap (at l₁) (omega arith) ∙ a .inside i h;
+      north = λ i h. d .outside i (inl (omega arith)) ∙ c .outside i (inl (omega arith)) ∙ b .outside i (inl (omega arith)) ∙ ap (at l₁) (omega arith)
+          ∙ a .inside i h;
       south = λ i h. d .outside (southStart + i) (inl (omega arith)) ∙ c .outside (southStart + i) (inl (omega arith)) ∙ b .inside i h;
       west = λ i h. d .outside (westStart + i) (inl (omega arith)) ∙ c .inside i h;
       east = d .inside;

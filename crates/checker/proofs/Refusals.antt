@@ -3,25 +3,24 @@ use Prim.Native.Nat.{ℕ, _*_, _≤_}
 use mathlib.Core.Path.{_≡_, refl, sym, ap, _∙_, subst}
 use mathlib.Core.Logic.{_≢_}
 use mathlib.Core.Bool.{Bool, true, false, cond, _&&_, and-eq-true-iff}
+use mathlib.Core.List.{List}
 use native.Mathlib.Omega.{arith}
 use native.Mathlib.Decide.{ℕ-discrete}
-use mathlib.Core.List.{List}
+use borrow.Author.Tests.{eq-eqb, ne-eqb, eqb-true, leb-true}
 use lib.Dec.{eqb, leb}
 use lib.ListN.{length}
-use borrow.Author.Tests.{eq-eqb, ne-eqb, eqb-true, leb-true}
 use Rattle.counting.specs.Counting.{In}
 use Rattle.terms.specs.Kinds.{box, hasOwnWidth, widest}
 use Rattle.terms.proofs.Laws.{within-in, passed, boxes-only, Known, is-row, is-channel, is-box, known}
 use Rattle.terms.specs.Limits.{widestGrid, mostLayers, within}
+use Rattle.terms.specs.declared.Refusal.{Refusal}
+use Rattle.terms.specs.Refusals.{refusal}
 use Rattle.problem.specs.declared.Problem.{Problem}
 use Rattle.problem.specs.Problem.{pinsIn, Good}
 use Rattle.ticket.specs.Read.{ticketOf}
 use Rattle.ticket.proofs.Good.{reading-good}
 use Rattle.ticket.specs.declared.Reading.{Reading}
-use Rattle.terms.specs.declared.Refusal.{Refusal}
-use Rattle.terms.specs.Refusals.{refusal}
 use Rattle.sweep.specs.Edges.{pinPlaces, Fits}
-use Rattle.sweep.specs.declared.Frame.{Frame}
 use Rattle.checker.specs.Check.{widthFits, checkRefusal, checkGrid, Checked}
 use Rattle.checker.specs.Marking.{PinList, Judges}
 use Rattle.checker.proofs.Lists.{listed}
@@ -65,7 +64,8 @@ no-refusal t w k x y e = elim (ℕ-discrete (t .refusal .number) 0) [ yes z ↦ 
     rest z =
         let size = t .problem .n .0 * w * k in
         let kind = t .problem .kind in
-        let p = passed (widthFits (t .problem) w && within k mostLayers) (refusal 11 0) _ (λ q. omega arith) (simp (eq-eqb (t .refusal .number) 0 z) at e) in
+        let p = passed (widthFits (t .problem) w && within k mostLayers) (refusal 11 0) _ (λ q. omega arith)
+        (simp (eq-eqb (t .refusal .number) 0 z) at e) in
         let q = passed (eqb x size) (refusal 12 size) _ (λ q. omega arith) (p .1) in
         let r = passed (leb size y) (refusal 13 size) _ (λ q. omega arith) (q .1) in
         let h = and-eq-true-iff (widthFits (t .problem) w) (within k mostLayers) .0 (p .0) in
@@ -79,12 +79,15 @@ no-refusal t w k x y e = elim (ℕ-discrete (t .refusal .number) 0) [ yes z ↦ 
           room = leb-true size y (r .0);
         }
 
+pub room : (t : Reading) (w k x y : ℕ) {r : Refusal} → r ≡ checkRefusal t w k x y → r .number ≡ 0 → x ≤ y
+room t w k x y is none =
+    let p = no-refusal t w k x y (sym (ap (λ (a : Refusal). a .number) is) ∙ none) in
+    omega (arith, p .size, p .room)
+
 -- ---- the call: t is what the bytes s say, and r is the refusal found
 
-abbrev pub frame : Problem → ℕ → ℕ → Bool → Frame
-frame q w k first = record { n = q .n .0; w = w; k = k; first = first }
-
-module _ (s : List ℕ) (t : Reading) (e : t ≡ ticketOf s) (w k : ℕ) (first : Bool) (x y : List ℕ) (r : Refusal) (is : r ≡ checkRefusal t w k (length x) (length y)) where
+module _ (s : List ℕ) (t : Reading) (e : t ≡ ticketOf s) (w k : ℕ) (first : Bool) (x y : List ℕ) (r : Refusal)
+    (is : r ≡ checkRefusal t w k (length x) (length y)) where
   number-is : r .number ≡ checkRefusal t w k (length x) (length y) .number
   number-is = ap (λ (a : Refusal). a .number) is
 
@@ -108,24 +111,22 @@ module _ (s : List ℕ) (t : Reading) (e : t ≡ ticketOf s) (w k : ℕ) (first 
     wide : In w widestGrid
     wide = small (known (t .problem .kind) (good .kind)) (all-passed .width)
 
-    pub room : length x ≤ length y
-    room = omega (arith, all-passed .size, all-passed .room)
-
-    pub fits : (m : ℕ) → m ≡ length x → Fits (frame (t .problem) w k first) pinPlaces pinPlaces (length x) m
-    fits m h =
+    pub fits : {m : ℕ} → m ≡ length x → Fits (checkGrid (t .problem) w k first) pinPlaces pinPlaces (length x) m
+    fits h =
         record {
           pins = refl;
           pin-marks = refl;
           points = record { shape = record { long = good .columns; wide = wide; deep = all-passed .layers }; size = all-passed .size; marks = h };
         }
 
-    pub accepted : (y′ list : List ℕ) (a : Refusal) → length y′ ≡ length y → PinList (t .problem .pins) list → Judges (frame (t .problem) w k first) list x a
-        → Checked (ticketOf s) w k first x y y′ a
-    accepted y′ list a h l j =
+    pub accepted : {y′ list : List ℕ} {a : Refusal} → length y′ ≡ length y → PinList (t .problem .pins) list
+        → Judges (checkGrid (t .problem) w k first) list x a → Checked (ticketOf s) w k first x y y′ a
+    accepted {y′} {list} {a} h l j =
         subst (λ (u : Reading). Checked u w k first x y y′ a) e
         (record {
           kept = h;
           refused = λ ne. absurd (ne (sym number-is ∙ none));
           grid = λ z. record { length = refl; width = all-passed .own; columns = good .columns .0; tracks = wide .0; layers = all-passed .layers .0 };
-          judged = λ z. j .judged (pinsIn (t .problem .pins)) (listed (t .problem) good list l (checkGrid (t .problem) w k first) refl wide (all-passed .own));
+          judged = λ z. j .judged (pinsIn (t .problem .pins))
+              (listed (t .problem) good list l (checkGrid (t .problem) w k first) refl wide (all-passed .own));
         })

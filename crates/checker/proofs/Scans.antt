@@ -1,16 +1,16 @@
 -- The loops over pins and points, one entry more at a time.
-use Prim.Native.Nat.{ℕ, _+_, _≤_, _<_}
+use Prim.Native.Nat.{ℕ, _+_, _≤_, _<_, min}
 use mathlib.Core.Path.{_≡_, refl, sym, ap, _∙_, subst}
 use mathlib.Core.Logic.{inl, inr, _≢_, ⊎-elim}
 use mathlib.Core.List.{List}
 use native.Mathlib.Omega.{arith}
-use native.Mathlib.Decide.{ℕ-discrete, decLt}
+use native.Mathlib.Decide.{ℕ-discrete, decLt, decLe}
 use lib.ListN.{length, set, replicate, length-replicate, getD-replicate, List·getD-eq-default}
 use lib.Seq.{getD-set-same, getD-set-other}
+use Rattle.terms.specs.Limits.{byteValues}
 use Rattle.sweep.specs.Edges.{pinPlaces}
 use Rattle.sweep.specs.Marks.{at, Spot, a-pin, a-point, val}
-use Rattle.checker.specs.Marking.{Holder, First, Firsts, Opened, Unless, Bare, Least, Lowest, LowestOf, noNet}
-use Rattle.terms.specs.Limits.{byteValues}
+use Rattle.checker.specs.Marking.{Holder, First, Firsts, Opened, Unless, Bare, Lowest, LowestOf, noNet}
 
 -- ---- cleared entries
 
@@ -31,16 +31,22 @@ opened-start p s =
     record {
       first = λ a h. absurd (omega arith);
       marked = λ a h. absurd (omega arith);
-      known = λ v h ne. elim (ℕ-discrete v 0) [ yes e ↦ inl e | no n ↦ absurd (ne (getD-set-other (replicate byteValues 0) 0 v 1 0 n ∙ getD-replicate byteValues v 0 0 h)) ];
+      known = λ v h ne. elim (ℕ-discrete v 0) [
+        | yes e ↦ inl e
+        | no n ↦ absurd (ne (getD-set-other (replicate byteValues 0) 0 v 1 0 n
+            ∙ getD-replicate byteValues v 0 0 h))
+      ];
       unknown = λ v h z. (λ e. zero v z e, λ o. omega (arith, o .1));
     }
   where
     zero : (v : ℕ) → at (set (replicate byteValues 0) 0 1) v ≡ 0 → v ≡ 0 → ⊥
     zero v z e =
-        let o : at (set (replicate byteValues 0) 0 1) v ≡ 1 = ap (at (set (replicate byteValues 0) 0 1)) e ∙ getD-set-same (replicate byteValues 0) 0 1 0 (rw length-replicate (omega arith)) in
+        let o : at (set (replicate byteValues 0) 0 1) v ≡ 1 = ap (at (set (replicate byteValues 0) 0 1)) e ∙ getD-set-same (replicate byteValues 0) 0 1 0
+        (rw length-replicate (omega arith)) in
         omega arith
 
-module _ (p s k : List ℕ) (a r : ℕ) (opened : Opened p s k a) (in-s : a < length s) (in-k : at p a < length k) (byte : at p a < byteValues) (mark : Unless (at k (at p a)) r) where
+module _ (p s k : List ℕ) (a r : ℕ) (opened : Opened p s k a) (in-s : a < length s) (in-k : at p a < length k) (byte : at p a < byteValues)
+    (mark : Unless (at k (at p a)) r) where
   new-known : r ≢ 0 → at k (at p a) ≡ 0
   new-known h = elim (ℕ-discrete (at k (at p a)) 0) [ yes z ↦ z | no n ↦ absurd (h (mark .old n)) ]
 
@@ -106,17 +112,24 @@ all-firsts p s k e f o =
 pub lowest-none : (x m : List ℕ) → Lowest x m 0 noNet
 lowest-none x m = record { small = omega arith; under = λ a h. absurd (omega arith); has = λ h. absurd (omega arith) }
 
-pub lowest-more : (x m : List ℕ) (q best u r : ℕ) → Lowest x m q best → Bare (at x q) (at m q) u → Least best u r → Lowest x m (q + 1) r
+pub lowest-more : (x m : List ℕ) (q best u r : ℕ) → Lowest x m q best → Bare (at x q) (at m q) u → r ≡ min best u → Lowest x m (q + 1) r
 lowest-more x m q best u r l b s =
     record {
-      small = omega (arith, l .small, s .first);
+      small = omega (arith, l .small);
       under = λ a h ne z. elim (ℕ-discrete a q) [
-        | yes e ↦ omega (arith, s .second, b .net (λ o. ne (ap (at x) e ∙ o)) (sym (ap (at m) e) ∙ z), ap (at x) e)
-        | no n ↦ omega (arith, s .first, l .under a (omega arith) ne z)
+        | yes e ↦ omega (arith, b .net (λ o. ne (ap (at x) e ∙ o)) (sym (ap (at m) e) ∙ z), ap (at x) e)
+        | no n ↦ omega (arith, l .under a (omega arith) ne z)
       ];
-      has = λ h. ⊎-elim
-          (λ e. (let o = l .has (omega arith) in (o .0, omega (arith, o .1), o .2 ∙ sym e, o .3, λ z. o .4 (sym e ∙ z))))
-          (λ e. (let o = b .has (omega arith) in (q, omega arith, o .0 ∙ sym e, o .1, λ z. o .2 (sym e ∙ z)))) (s .one);
+      has = λ h. elim (decLe best u) [
+        | yes c ↦
+            let e : r ≡ best = omega arith in
+            let o = l .has (omega arith) in
+            (o .0, omega (arith, o .1), o .2 ∙ sym e, o .3, λ z. o .4 (sym e ∙ z))
+        | no c ↦
+            let e : r ≡ u = omega arith in
+            let o = b .has (omega arith) in
+            (q, omega arith, o .0 ∙ sym e, o .1, λ z. o .2 (sym e ∙ z))
+      ];
     }
 
 pub lowest-all : (x m : List ℕ) (q top r : ℕ) → q ≡ top → Lowest x m q r → Lowest x m top r
@@ -125,10 +138,10 @@ lowest-all x m q top r e l = subst (λ (z : ℕ). Lowest x m z r) e l
 inside : (x : List ℕ) (q : ℕ) → at x q ≢ 0 → q < length x
 inside x q ne = elim (decLt q (length x)) [ yes h ↦ h | no n ↦ absurd (ne (List·getD-eq-default x 0 (omega arith))) ]
 
-module _ (p s x m : List ℕ) (a b r : ℕ) (pins : Lowest p s (length p) a) (points : Lowest x m (length x) b) (least : Least a b r) where
+module _ (p s x m : List ℕ) (a b r : ℕ) (pins : Lowest p s (length p) a) (points : Lowest x m (length x) b) (least : r ≡ min a b) where
   none-under : (c : Spot) → val p x c ≢ 0 → val s m c ≡ 0 → r ≤ val p x c
-  none-under (a-pin c) ne z = omega (arith, least .first, pins .under c (inside p c ne) ne z)
-  none-under (a-point c) ne z = omega (arith, least .second, points .under c (inside x c ne) ne z)
+  none-under (a-pin c) ne z = omega (arith, pins .under c (inside p c ne) ne z)
+  none-under (a-point c) ne z = omega (arith, points .under c (inside x c ne) ne z)
 
   pub lowest-none-of : r ≡ noNet → LowestOf p s x m 0
   lowest-none-of e = record { under = λ c ne h o z. omega (arith, none-under c ne z); has = λ ne. absurd (ne refl) }
@@ -136,13 +149,21 @@ module _ (p s x m : List ℕ) (a b r : ℕ) (pins : Lowest p s (length p) a) (po
   pub lowest-of : r ≢ noNet → LowestOf p s x m r
   lowest-of ne =
       record {
-        under = λ c nz h o z. ⊎-elim (λ e. absurd (some (small) e)) (λ l. absurd (omega (arith, none-under c nz z))) o;
-        has = λ nz. ⊎-elim (λ e. (let o = pins .has (omega (arith, small)) in (a-pin (o .0), o .2 ∙ sym e, o .3)))
-            (λ e. (let o = points .has (omega (arith, small)) in (a-point (o .0), o .2 ∙ sym e, o .3))) (least .one);
+        under = λ c nz h o z. ⊎-elim (λ e. absurd (holder .2 e)) (λ l. absurd (omega (arith, none-under c nz z))) o;
+        has = λ nz. (holder .0, holder .1 .0, holder .1 .1);
       }
     where
       small : r < noNet
-      small = let h : r ≤ noNet = omega (arith, least .first, pins .small) in omega arith
+      small = let h : r ≤ noNet = omega (arith, pins .small) in omega arith
 
-      some : r < noNet → r ≡ 0 → ⊥
-      some h z = ⊎-elim (λ e. pins .has (omega arith) .4 (sym e ∙ z)) (λ e. points .has (omega arith) .4 (sym e ∙ z)) (least .one)
+      holder : (c : Spot) × ((val p x c ≡ r) × (val s m c ≡ 0)) × (r ≢ 0)
+      holder = elim (decLe a b) [
+        | yes c ↦
+            let e : r ≡ a = omega arith in
+            let o = pins .has (omega (arith, small)) in
+            (a-pin (o .0), (o .2 ∙ sym e, o .3), λ z. o .4 (sym e ∙ z))
+        | no c ↦
+            let e : r ≡ b = omega arith in
+            let o = points .has (omega (arith, small)) in
+            (a-point (o .0), (o .2 ∙ sym e, o .3), λ z. o .4 (sym e ∙ z))
+      ]

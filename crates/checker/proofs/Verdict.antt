@@ -36,7 +36,7 @@ first-once P a b f h e =
       | no n ↦ elim (decLt b a) [ yes l ↦ absurd (f .none b l (sym e)) | no o ↦ omega arith ]
     ]
 
-module _ (g : Grid) (p : Pins) (P X S M : List ℕ) (listed : Listed g p P) (k : Marking g P X S M) where
+module _ {g : Grid} {p : Pins} {P X S M : List ℕ} (listed : Listed g p P) (k : Marking g P X S M) where
   abbrev x : Wiring
   x = wiringOf g X
 
@@ -52,12 +52,20 @@ module _ (g : Grid) (p : Pins) (P X S M : List ℕ) (listed : Listed g p P) (k :
         subst (Linked g p x m f) (sym (alone u o (λ z. h (ap (val (k .s₀) (k .m₀)) e ∙ z)))) (stay held)
     seen-linked {a} (mk.on {a = b} r j q) u o e =
         let d = found g (listed .long .0) (listed .wide .0) b a j in
-        let h : Held g p x m (d .u) = record { inside = d .in-u; net = value (d .u) (d .in-u) ∙ sym (ap (val P X) (d .at-u)) ∙ q ∙ ap (val P X) e ∙ sym (value u (o .inside)) ∙ o .net } in
+        let h : Held g p x m (d .u) = record {
+          inside = d .in-u;
+          net = value (d .u) (d .in-u) ∙ sym (ap (val P X) (d .at-u)) ∙ q ∙ ap (val P X) e ∙ sym
+              (value u (o .inside)) ∙ o .net;
+        } in
         let i = node-once g (listed .long .1) (listed .wide .1) (d .v) u (d .in-v) (o .inside) (sym (d .at-v) ∙ e) in
         step (seen-linked r (d .u) h (d .at-u)) (inl (subst (λ (z : Node). Edge g (d .u) z) i (d .edge))) o
     seen-linked {a} (mk.back {b = b} r j q) u o e =
         let d = found g (listed .long .0) (listed .wide .0) a b j in
-        let h : Held g p x m (d .v) = record { inside = d .in-v; net = value (d .v) (d .in-v) ∙ sym (ap (val P X) (d .at-v)) ∙ sym q ∙ ap (val P X) e ∙ sym (value u (o .inside)) ∙ o .net } in
+        let h : Held g p x m (d .v) = record {
+          inside = d .in-v;
+          net = value (d .v) (d .in-v) ∙ sym (ap (val P X) (d .at-v)) ∙ sym q ∙ ap (val P X) e
+              ∙ sym (value u (o .inside)) ∙ o .net;
+        } in
         let i = node-once g (listed .long .1) (listed .wide .1) (d .u) u (d .in-u) (o .inside) (sym (d .at-u) ∙ e) in
         step (seen-linked r (d .v) h (d .at-v)) (inr (subst (λ (z : Node). Edge g z (d .v)) i (d .edge))) o
 
@@ -79,8 +87,8 @@ module _ (g : Grid) (p : Pins) (P X S M : List ℕ) (listed : Listed g p P) (k :
     pub linked : (u : Node) → Held g p x m u → val S M (spot g u) ≢ 0 → Linked g p x m node u
     pub seen : (u : Node) → Linked g p x m node u → val S M (spot g u) ≢ 0
 
-  pub hub : (m : ℕ) → m ≢ 0 → (b : ℕ) → at P b ≡ m → Hub m
-  hub m ne b e =
+  pub hub : {m : ℕ} → m ≢ 0 → (b : ℕ) → at P b ≡ m → Hub m
+  hub {m} ne b e =
       let (a, q, first) = first-from P m ne b 0 (ap (at P) (omega arith) ∙ e) (λ c h. absurd (omega arith)) in
       let (s, c, i, o) = listed .back a (first .some) in
       let held : Held g p x m (pin s c) = record { inside = i; net = value (pin s c) i ∙ ap (at P) o ∙ q } in
@@ -100,8 +108,8 @@ module _ (g : Grid) (p : Pins) (P X S M : List ℕ) (listed : Listed g p P) (k :
           (ap a-pin (first-once P (pinAt t d) a (k .firsts .first (pinAt t d) z) first (sym (value (pin t d) (w .inside)) ∙ w .net ∙ sym q)) ∙ sym o)
       only a first q f h o (point i j l) w z = absurd (z (k .clear _))
 
-  pub one-piece : (m : ℕ) → Hub m → ((u : Node) → Held g p x m u → val S M (spot g u) ≢ 0) → OnePiece g p x m
-  one-piece m h all u v a b = join (back (h .linked u a (all u a))) (h .linked v b (all v b))
+  pub one-piece : {m : ℕ} → Hub m → ((u : Node) → Held g p x m u → val S M (spot g u) ≢ 0) → OnePiece g p x m
+  one-piece h all u v a b = join (back (h .linked u a (all u a))) (h .linked v b (all v b))
 
-  pub broken : (m : ℕ) → Hub m → (u : Node) → Held g p x m u → val S M (spot g u) ≡ 0 → Broken g p x m
-  broken m h u a z = record { one = h .node; other = u; held-one = h .held; held-other = a; apart = λ l. h .seen u l z }
+  pub broken : {m : ℕ} → Hub m → (u : Node) → Held g p x m u → val S M (spot g u) ≡ 0 → Broken g p x m
+  broken h u a z = record { one = h .node; other = u; held-one = h .held; held-other = a; apart = λ l. h .seen u l z }

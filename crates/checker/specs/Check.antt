@@ -1,9 +1,9 @@
 -- Check: what it answers, for every input.
 --
 --   widthFits q w             w is one that the ticket's wirings have; "w outside 1 to 90, or not a box's own w"
---   checkRefusal t w k x y    the refusals before the wiring is looked at, by the reading t, the wiring's length x and the scratch's length y:
---                             "Those of Read; 11, w outside 1 to 90, or not a box's own w, or k outside 1 to 255 (0); 12, wiring length not n × w × k (the
---                             right length); 13, scratch shorter than that (the length needed)"
+--   checkRefusal t w k x y    the refusals before the wiring is looked at, by the reading t, the wiring's length x and the scratch's
+--                             length y: "Those of Read; 11, w outside 1 to 90, or not a box's own w, or k outside 1 to 255 (0); 12,
+--                             wiring length not n × w × k (the right length); 13, scratch shorter than that (the length needed)"
 --   checkGrid q w k first     the grid: the ticket's n, and the counts and the direction that Check is given
 --   Foreign g p x q           "a nonzero point that holds no net of the ticket", byte q of the buffer
 --   FirstForeign g p x q      "14, .. (the first point, in buffer order)"
@@ -11,7 +11,8 @@
 --   Broken g p x m            two nodes that hold net m and are not linked
 --   FirstBroken g p x m       "15, a net not in one piece (the smallest such net)"; no point is foreign
 --   Judged g p x r            what Check finds of a wiring: "accepts a wiring of a ticket .. exactly when it is legal", else 14 or else 15
---   Checked t .. r            Check's whole outcome, where t is what the ticket's bytes say; "Scratch is untouched by 1 to 13 and free otherwise"
+--   Checked t .. r            Check's whole outcome, where t is what the ticket's bytes say; "Scratch is untouched by 1 to 13 and free
+--                             otherwise"
 use Prim.Native.Nat.{ℕ, _*_, _<_}
 use mathlib.Core.Path.{_≡_}
 use mathlib.Core.Logic.{_⊎_, _≢_, _↔_}
@@ -21,13 +22,13 @@ use lib.Dec.{eqb, leb}
 use lib.ListN.{length, getD}
 use Rattle.counting.specs.Counting.{In}
 use Rattle.terms.specs.Kinds.{Side, hasOwnWidth, widest}
-use Rattle.grid.specs.Grid.{Grid, Node, places}
 use Rattle.terms.specs.Limits.{mostLayers, within}
+use Rattle.terms.specs.declared.Refusal.{Refusal}
+use Rattle.terms.specs.Refusals.{refusal, accepted, unless}
+use Rattle.grid.specs.Grid.{Grid, Node, places}
 use Rattle.grid.specs.Legal.{Pins, Wiring, Held, Linked, Legal, GridOf, wiringOf}
 use Rattle.problem.specs.declared.Problem.{Problem}
 use Rattle.problem.specs.Problem.{pinsIn}
-use Rattle.terms.specs.declared.Refusal.{Refusal}
-use Rattle.terms.specs.Refusals.{refusal, accepted, unless}
 use Rattle.ticket.specs.declared.Reading.{Reading}
 
 -- ---- before the wiring is looked at
@@ -86,4 +87,5 @@ pub record Checked (t : Reading) (w k : ℕ) (first : Bool) (x y y′ : List ℕ
   pub refused : checkRefusal t w k (length x) (length y) .number ≢ 0 → (r ≡ checkRefusal t w k (length x) (length y)) × (y′ ≡ y)
   pub grid : checkRefusal t w k (length x) (length y) .number ≡ 0
       → GridOf (t .problem .kind) (t .problem .n .0) (t .problem .byte2) (checkGrid (t .problem) w k first)
-  pub judged : checkRefusal t w k (length x) (length y) .number ≡ 0 → Judged (checkGrid (t .problem) w k first) (pinsIn (t .problem .pins)) x r
+  pub judged : checkRefusal t w k (length x) (length y) .number ≡ 0 → Judged (checkGrid (t .problem) w k first)
+      (pinsIn (t .problem .pins)) x r

@@ -7,16 +7,16 @@
 --   Holder p top v        one of the first top entries of the pin list holds v
 --   First p a             pin a is the first in the list that holds its net
 --   Firsts p s            each net's first pin is marked in s, and no other
---   Opened p s k top      of the first top pins: each net's first is marked in s, and k is 0 just for the numbers of no net (of all bytes; 0 counts as known)
+--   Opened p s k top      of the first top pins: each net's first is marked in s, and k is 0 just for the numbers of no net (of all
+--                         bytes; 0 counts as known)
 --   FirstUnknown k x r    r is the first point of x whose number is unknown, or x's length
 --   Unless known r        r marks a pin whose net was not known yet
 --   Bare v mark r         r is v where that is a net without a mark, else noNet
---   Least a b r           r is the smaller of a and b
 --   Lowest x m top r      r is the smallest number but 0 that one of the first top entries of x holds without a mark in m, or noNet
 --   Marking g p x s m     the marks s and m began with the first pins and have settled
 --   LowestOf p s x m r    r is the smallest net of a spot without a mark, or 0
 --   Torn g p x r          r is the smallest net with a spot that settled marks leave out, or 0
---   Judges f list x r     r is what Check finds, whatever the pins that the list has
+--   Judges g list x r     r is what Check finds, whatever the pins that the list has
 use Prim.Native.Nat.{ℕ, _+_, _-_, _≤_, _<_}
 use mathlib.Core.Path.{_≡_}
 use mathlib.Core.Logic.{_⊎_, _≢_}
@@ -25,13 +25,12 @@ use lib.ListN.{length}
 use Rattle.counting.specs.Counting.{In}
 use Rattle.terms.specs.Kinds.{Side}
 use Rattle.terms.specs.Limits.{longestSide, largestNet, byteValues}
+use Rattle.terms.specs.declared.Refusal.{Refusal}
 use Rattle.grid.specs.Grid.{Grid, places}
 use Rattle.grid.specs.Legal.{Pins}
-use Rattle.sweep.specs.Marks.{at, Spot, val, two, Settled}
-use Rattle.sweep.specs.Edges.{gridOf, southStart, westStart, eastStart, pinPlaces, pinAt, Edges}
-use Rattle.terms.specs.declared.Refusal.{Refusal}
-use Rattle.sweep.specs.declared.Frame.{Frame}
 use Rattle.problem.specs.declared.Pins.{Pins as TicketPins}
+use Rattle.sweep.specs.Marks.{at, Spot, val, two, Settled}
+use Rattle.sweep.specs.Edges.{southStart, westStart, eastStart, pinPlaces, pinAt, Edges}
 use Rattle.checker.specs.Check.{Judged}
 
 abbrev pub noNet : ℕ
@@ -83,11 +82,6 @@ pub record Bare (v mark r : ℕ) : Type 0 where
   pub has : r < noNet → (v ≡ r) × (mark ≡ 0) × (r ≢ 0)
   pub small : r ≤ noNet
 
-pub record Least (a b r : ℕ) : Type 0 where
-  pub first : r ≤ a
-  pub second : r ≤ b
-  pub one : (r ≡ a) ⊎ (r ≡ b)
-
 pub record Lowest (x m : List ℕ) (top r : ℕ) : Type 0 where
   pub small : r ≤ noNet
   pub under : (a : ℕ) → a < top → at x a ≢ 0 → at m a ≡ 0 → r ≤ at x a
@@ -114,5 +108,5 @@ pub record Torn (g : Grid) (p x : List ℕ) (r : ℕ) : Type 0 where
   pub marking : Marking g p x s m
   pub lowest : LowestOf p s x m r
 
-pub record Judges (f : Frame) (list x : List ℕ) (r : Refusal) : Type 0 where
-  pub judged : (p : Pins) → Listed (gridOf f) p list → Judged (gridOf f) p x r
+pub record Judges (g : Grid) (list x : List ℕ) (r : Refusal) : Type 0 where
+  pub judged : (p : Pins) → Listed g p list → Judged g p x r

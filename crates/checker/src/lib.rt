@@ -1,10 +1,14 @@
 // Check: whether a wiring, whoever drew it, is a legal wiring of a ticket.
+use grid::Frame;
 use grid::Layer;
 use grid::Track;
+use grid::column_count;
+use grid::layer_count;
+use grid::points;
+use grid::track_count;
 use problem::Pins;
 use problem::Problem;
 use sweep::EAST_START;
-use sweep::Frame;
 use sweep::PIN_PLACES;
 use sweep::SOUTH_START;
 use sweep::WEST_START;
@@ -15,6 +19,7 @@ use terms::MOST_LAYERS;
 use terms::Refusal;
 use terms::is_within;
 use terms::refuse;
+use terms::smaller_byte;
 use terms::wide;
 use terms::widest;
 use ticket::Reading;
@@ -26,9 +31,10 @@ ghost use Rattle.terms.specs.Limits.{longestSide, mostLayers, byteValues, withi
 ghost use Rattle.problem.specs.Problem.{Good};
 ghost use Rattle.ticket.specs.Read.{ticketOf};
 ghost use Rattle.sweep.specs.Marks.{at};
-ghost use Rattle.sweep.specs.Edges.{gridOf, pinPlaces, Fits};
+ghost use Rattle.grid.specs.Grid.{gridOf};
+ghost use Rattle.sweep.specs.Edges.{pinPlaces, Fits};
 ghost use Rattle.checker.specs.Check.{widthFits, checkRefusal, Checked};
-ghost use Rattle.checker.specs.Marking.{PinList, Put, Opened, Firsts, FirstUnknown, Unless, Lowest, Bare, Least, LowestOf, Torn, Judges};
+ghost use Rattle.checker.specs.Marking.{PinList, Put, Opened, Firsts, FirstUnknown, Unless, Lowest, Bare, LowestOf, Torn, Judges};
 
 // The largest byte, which is no net's number.
 const NO_NET: u8 = (BYTE_VALUES - 1) as u8;
@@ -38,9 +44,10 @@ const NO_NET: u8 = (BYTE_VALUES - 1) as u8;
 fn has_width(q: Problem, w: Track) -> bool
     ensures { λ r. ⌜ r ≡ widthFits q (w .0) ⌝ }
 {
-    if is_within(w.0, widest(q.kind)) {
+    let tracks = track_count(w);
+    if is_within(tracks, widest(q.kind)) {
         if q.kind == BOX {
-            return w.0 == wide(q.byte2);
+            return tracks == wide(q.byte2);
         }
         return true;
     }
@@ -51,7 +58,7 @@ fn has_counts(q: Problem, w: Track, k: Layer) -> bool
     ensures { λ r. ⌜ r ≡ (widthFits q (w .0) && within (k .0) mostLayers) ⌝ }
 {
     if has_width(q, w) {
-        return is_within(k.0, MOST_LAYERS);
+        return is_within(layer_count(k), MOST_LAYERS);
     }
     false
 }
@@ -67,7 +74,7 @@ fn early_refusal(t: Reading, w: Track, k: Layer, wiring: usize, scratch: usize) 
     }
     let q = t.problem;
     if has_counts(q, w, k) {
-        let size = grid::points(q.n, w, k);
+        let size = points(q.n, w, k);
         if wiring != size {
             return refuse(12, size);
         }
@@ -172,12 +179,6 @@ fn unmarked(v: u8, mark: u8) -> u8
     v
 }
 
-fn smaller(a: u8, b: u8) -> u8
-    ensures { λ r. ⌜ Least a b r ⌝ }
-{
-    if b < a { b } else { a }
-}
-
 // The smallest net without a mark, or NO_NET.
 fn lowest(x: &[u8], m: &[u8]) -> u8
     requires { ⌜ length (now x) ≤ length (now m) ⌝ }
@@ -185,7 +186,7 @@ fn lowest(x: &[u8], m: &[u8]) -> u8
 {
     let mut best: u8 = NO_NET;
     for q in 0..x.len() {
-        best = smaller(best, unmarked(x[q], m[q]));
+        best = smaller_byte(best, unmarked(x[q], m[q]));
     }
     best
 }
@@ -195,7 +196,7 @@ fn lowest_of(p: &[u8], s: &[u8], x: &[u8], m: &[u8]) -> u8
     requires { ⌜ (length (now p) ≤ length (now s)) × (length (now x) ≤ length (now m)) ⌝ }
     ensures { λ r. ⌜ LowestOf (now (p .entry)) (now (s .entry)) (now (x .entry)) (now (m .entry)) r ⌝ }
 {
-    let best = smaller(lowest(p, s), lowest(x, m));
+    let best = smaller_byte(lowest(p, s), lowest(x, m));
     if best == NO_NET {
         return 0;
     }
@@ -204,7 +205,7 @@ fn lowest_of(p: &[u8], s: &[u8], x: &[u8], m: &[u8]) -> u8
 
 // The smallest net that is not in one piece, or 0, where s marks each net's first pin. The walks do the work; the sweeps make sure.
 fn torn(p: &[u8], s: &mut [u8], x: &[u8], m: &mut [u8], f: Frame) -> u8
-    requires { ⌜ Fits f (length (now p)) (length (now s)) (length (now x)) (length (now m)) × Firsts (now p) (now s) ⌝ }
+    requires { ⌜ Fits (gridOf f) (length (now p)) (length (now s)) (length (now x)) (length (now m)) × Firsts (now p) (now s) ⌝ }
     ensures { λ r. ⌜ Torn (gridOf f) (now (p .entry)) (now (x .entry)) r ⌝ }
 {
     clear(m);
@@ -217,14 +218,17 @@ fn torn(p: &[u8], s: &mut [u8], x: &[u8], m: &mut [u8], f: Frame) -> u8
 
 // What Check finds of a wiring x of the pins in the list p; s and m take marks.
 fn judge(p: &[u8], s: &mut [u8], x: &[u8], m: &mut [u8], f: Frame) -> Refusal
-    requires { ⌜ Fits f (length (now p)) (length (now s)) (length (now x)) (length (now m)) ⌝ }
-    ensures { λ r. ⌜ Judges f (now (p .entry)) (now (x .entry)) r ⌝ }
+    requires { ⌜ Fits (gridOf f) (length (now p)) (length (now s)) (length (now x)) (length (now m)) ⌝ }
+    ensures { λ r. ⌜ Judges (gridOf f) (now (p .entry)) (now (x .entry)) r ⌝ }
 {
     let known = open_nets(p, s);
-    let n = f.n;
-    let w = f.w;
-    let k = f.k;
-    let q = first_unknown(x, &known, n, w, k);
+    let q = first_unknown(
+        x,
+        &known,
+        column_count(f.n),
+        track_count(f.w),
+        layer_count(f.k),
+    );
     if q < x.len() {
         return refuse(14, q);
     }
@@ -236,8 +240,8 @@ fn judge(p: &[u8], s: &mut [u8], x: &[u8], m: &mut [u8], f: Frame) -> Refusal
 }
 
 fn judge_list(list: [u8; PIN_PLACES], x: &[u8], m: &mut [u8], f: Frame) -> Refusal
-    requires { ⌜ Fits f pinPlaces pinPlaces (length (now x)) (length (now m)) ⌝ }
-    ensures { λ r. ⌜ Judges f list (now (x .entry)) r ⌝ }
+    requires { ⌜ Fits (gridOf f) pinPlaces pinPlaces (length (now x)) (length (now m)) ⌝ }
+    ensures { λ r. ⌜ Judges (gridOf f) list (now (x .entry)) r ⌝ }
 {
     let mut marks = [0u8; PIN_PLACES];
     judge(&list, &mut marks, x, m, f)
@@ -252,7 +256,8 @@ pub fn check(
     wiring: &[u8],
     scratch: &mut [u8],
 ) -> Refusal
-    ensures { λ r. ⌜ Checked (ticketOf (now (ticket .entry))) (w .0) (k .0) first (now (wiring .entry)) (now (scratch .entry)) (now (scratch .exit)) r ⌝ }
+    ensures { λ r. ⌜ Checked (ticketOf (now (ticket .entry))) (w .0) (k .0) first (now (wiring .entry)) (now (scratch .entry))
+        (now (scratch .exit)) r ⌝ }
 {
     let t = ticket::parse(ticket);
     let refused = early_refusal(t, w, k, wiring.len(), scratch.len());
@@ -262,15 +267,6 @@ pub fn check(
     let pins = t.problem.pins;
     let list = pin_list(pins);
     let size = wiring.len();
-    judge_list(
-        list,
-        wiring,
-        &mut scratch[..size],
-        Frame {
-            n: t.problem.n.0,
-            w: w.0,
-            k: k.0,
-            first,
-        },
-    )
+    let n = t.problem.n;
+    judge_list(list, wiring, &mut scratch[..size], Frame { n, w, k, first })
 }

@@ -51,6 +51,7 @@ zeros-aged (suc a ∷ old) (b ∷ now) e h =
     let z : b ≡ 1 = h 0 .some (λ u. omega arith) in
     rw z (omega arith)
 
-pub aged-two : (s m s′ m′ : List ℕ) → ((b : ℕ) → Aged (at s b) (at s′ b)) → ((b : ℕ) → Aged (at m b) (at m′ b)) → (a : Spot) → Aged (val s m a) (val s′ m′ a)
+pub aged-two : (s m s′ m′ : List ℕ) → ((b : ℕ) → Aged (at s b) (at s′ b)) → ((b : ℕ) → Aged (at m b) (at m′ b)) → (a : Spot) → Aged (val s m a)
+    (val s′ m′ a)
 aged-two s m s′ m′ f g (a-pin a) = f a
 aged-two s m s′ m′ f g (a-point q) = g q

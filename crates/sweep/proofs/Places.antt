@@ -5,8 +5,8 @@ use mathlib.Core.Logic.{_⊎_, inl, inr, ⊎-map}
 use mathlib.Core.Bool.{Bool, true, false}
 use native.Mathlib.Omega.{arith}
 use native.Mathlib.Nat.{mul-comm, mul-one, zero-mul, div-add-mod', mod-lt, div-lt-iff-lt-mul}
-use lib.Dec.{ltb}
 use borrow.Author.Tests.{ltb-true, lt-ltb, eq-eqb, ne-eqb, eqb-true, eqb-false}
+use lib.Dec.{ltb}
 use Rattle.counting.specs.Counting.{In, bit}
 use Rattle.terms.specs.Kinds.{Side, north, south, west, east}
 use Rattle.grid.specs.Grid.{Grid, Node, pin, point, places, Inside, Edge, along-column, along-track, via, north-pin, south-pin, west-pin, east-pin, Joined}
@@ -54,7 +54,8 @@ module _ (g : Grid) where
 
   index-up : (i j l : ℕ) → 1 ≤ i → 1 ≤ l → index g i j (suc l) ≡ index g i j l + g .n * g .w
   index-up i j l a b =
-      let e : (suc l - 1) * (g .n * g .w) ≡ (l - 1) * (g .n * g .w) + g .n * g .w = ap (λ (u : ℕ). u * (g .n * g .w)) (omega arith) ∙ next-row (l - 1) (g .n * g .w) in
+      let e : (suc l - 1) * (g .n * g .w) ≡ (l - 1) * (g .n * g .w) + g .n * g .w = ap (λ (u : ℕ). u * (g .n * g .w)) (omega arith) ∙ next-row (l - 1)
+      (g .n * g .w) in
       omega (arith, index-is g i j l a, index-is g i j (suc l) a)
 
   flat-row : (l : ℕ) {a b : ℕ} → horizontal (g .first) (l - 1) ≡ true → In l (g .k)
@@ -65,7 +66,8 @@ module _ (g : Grid) where
       → Along ((l - 1) * (g .n * g .w)) (g .n) (g .w) false a b → Edges g (a-point a) (a-point b)
   steep-row l {a} {b} e h r = inl (l - 1, omega arith, inr (subst (λ (z : Bool). Along ((l - 1) * (g .n * g .w)) (g .n) (g .w) z a b) (sym e) r))
 
-  ends-at : (l : ℕ) (z : Bool) (a b : Spot) → horizontal (g .first) (l - 1) ≡ z → In l (g .k) → Ends ((l - 1) * (g .n * g .w)) (g .n) (g .w) z a b → Edges g a b
+  ends-at : (l : ℕ) (z : Bool) (a b : Spot) → horizontal (g .first) (l - 1) ≡ z → In l (g .k) → Ends ((l - 1) * (g .n * g .w)) (g .n) (g .w) z a b
+      → Edges g a b
   ends-at l z a b e h r = inr (l - 1, omega arith, subst (λ (z : Bool). Ends ((l - 1) * (g .n * g .w)) (g .n) (g .w) z a b) (sym e) r)
 
   pub edge-of : (u v : Node) → Inside g u → Inside g v → Edge g u v → Edges g (spot g u) (spot g v)
@@ -73,11 +75,28 @@ module _ (g : Grid) where
       let r = rows-in j (g .w) (g .n) (omega arith) in
       let e = next-row (j - 1) (g .n) in
       let f : j * g .n ≡ (j - 1) * g .n + g .n = ap (λ (u : ℕ). u * g .n) (omega arith) ∙ e in
-      steep-row l (horizontal-no (g .first) l (omega arith) d) (omega arith)
-      ((j - 1) * g .n + (i - 1), omega arith, (omega (arith, index-is g i j l (omega arith)), omega (arith, index-is g i j l (omega arith), index-across i j l (omega arith) (omega arith))))
+      steep-row l (horizontal-no (g .first) l (omega arith) d) (omega arith) (
+        (j - 1) * g .n + (i - 1),
+        omega arith,
+        (
+          omega (arith, index-is g i j l (omega arith)),
+          omega (
+            arith,
+            index-is g i j l (omega arith),
+            index-across i j l (omega arith) (omega arith),
+          ),
+        ),
+      )
   edge-of u v a b (along-track {i} {j} {l} d) =
-      flat-row l (horizontal-yes (g .first) l (omega arith) d) (omega arith)
-      (j - 1, omega arith, (i - 1, omega arith, (omega (arith, index-is g i j l (omega arith)), omega (arith, index-is g i j l (omega arith), index-next i j l (omega arith)))))
+      flat-row l (horizontal-yes (g .first) l (omega arith) d) (omega arith) (
+        j - 1,
+        omega arith,
+        (
+          i - 1,
+          omega arith,
+          (omega (arith, index-is g i j l (omega arith)), omega (arith, index-is g i j l (omega arith), index-next i j l (omega arith))),
+        ),
+      )
   edge-of u v a b (via {i} {j} {l}) =
       let r = rows-in (j - 1) (g .w) (g .n) (omega arith) in
       inl (
@@ -94,7 +113,20 @@ module _ (g : Grid) where
       )
   edge-of u v a b (north-pin {i} {l} d) =
       ends-at l false _ _ (horizontal-no (g .first) l (omega arith) d) (omega arith)
-      (inr (i - 1, omega arith, (ap a-pin (omega arith), ap a-point (omega (arith, index-is g i (g .w) l (omega arith), last-row (g .n) (g .w) (omega arith), mul-one (i - 1))))))
+      (inr (
+        i - 1,
+        omega arith,
+        (
+          ap a-pin (omega arith),
+          ap a-point (omega (
+            arith,
+            index-is g i (g .w) l (omega arith),
+            last-row (g .n) (g .w)
+                (omega arith),
+            mul-one (i - 1),
+          )),
+        ),
+      ))
   edge-of u v a b (south-pin {i} {l} d) =
       ends-at l false _ _ (horizontal-no (g .first) l (omega arith) d) (omega arith)
       (inl (i - 1, omega arith, (refl, ap a-point (omega (arith, index-is g i 1 l (omega arith), zero-mul (g .n), mul-one (i - 1))))))

@@ -1,6 +1,6 @@
 -- Sweeps compose: what two runs over edges do one after the other is one sweep over the edges of both, because a run adds only marks that no run goes on from.
-use Prim.Native.Nat.{ℕ, _+_, _≤_, _<_}
-use mathlib.Core.Path.{_≡_, refl, sym, ap, _∙_, subst}
+use Prim.Native.Nat.{ℕ, _+_, _<_, max}
+use mathlib.Core.Path.{_≡_, refl, sym, ap, _∙_, subst, ap₂}
 use mathlib.Core.Logic.{_⊎_, inl, inr, _≢_, ⊎-elim}
 use mathlib.Core.List.{List}
 use native.Mathlib.Omega.{arith}
@@ -185,9 +185,10 @@ module _ (x m : List ℕ) (start : ℕ) where
   Quiet a b = Shut (at x a) (at x b) (at m a) (at m b) (at m a) (at m b)
 
   -- one more edge, of which o says whether it asks
-  pub all-more : (t gap found o r : ℕ) → AllShut x m start t gap found → (o ≡ 0 → Quiet (start + t) (start + t + gap)) × (Quiet (start + t) (start + t + gap) → o ≡ 0)
-      → (found ≤ r) × (o ≤ r) × ((r ≡ found) ⊎ (r ≡ o)) → AllShut x m start (t + 1) gap r
-  all-more t gap found o r s h (i, j, k) =
+  pub all-more : (t gap found o r : ℕ) → AllShut x m start t gap found
+      → (o ≡ 0 → Quiet (start + t) (start + t + gap)) × (Quiet (start + t) (start + t + gap) → o ≡ 0) → r ≡ max found o
+      → AllShut x m start (t + 1) gap r
+  all-more t gap found o r s h e′ =
       record {
         none = λ z a b e. elim (ℕ-discrete (e .0) t) [
           | yes q ↦ rw (e .2 .0, e .2 .1, q) (h .0 (omega arith))
@@ -196,11 +197,16 @@ module _ (x m : List ℕ) (start : ℕ) where
         some = λ f. (
             let u : found ≡ 0 = s .some (λ a b e. f a b (e .0, omega (arith, e .1), e .2)) in
             let v : o ≡ 0 = h .1 (f (start + t) (start + t + gap) (t, omega arith, (refl, refl))) in
-            ⊎-elim (λ e. e ∙ u) (λ e. e ∙ v) k);
+            omega arith);
       }
 
   pub all-shut : (t count gap r : ℕ) → t ≡ count → AllShut x m start t gap r → AllShut x m start count gap r
   all-shut t count gap r e s = subst (λ (c : ℕ). AllShut x m start c gap r) e s
+
+-- the same of two indices
+pub swept-at₂ : {I J A : Type 0} {v : A → ℕ} {σ σ′ : State A} {c : ℕ} (F : I → J → A → A → Type 0) {i i′ : I} {j j′ : J} → i ≡ i′ → j ≡ j′
+    → Swept v σ σ′ (F i j) c → Swept v σ σ′ (F i′ j′) c
+swept-at₂ {v = v} {σ} {σ′} {c} F p q s = subst (λ (E : _). Swept v σ σ′ E c) (ap₂ F p q) s
 
 pub swept-at : {I A : Type 0} {v : A → ℕ} {σ σ′ : State A} {c : ℕ} (F : I → A → A → Type 0) (i j : I) → i ≡ j → Swept v σ σ′ (F i) c → Swept v σ σ′ (F j) c
 swept-at {I} {v} {σ} {σ′} {c} F i j e s = subst (λ (u : I). Swept v σ σ′ (F u) c) e s

@@ -1,8 +1,7 @@
 -- The edges between spots, as the sweep's loops go over them: the joins of the grid, by index. Cited by the contracts of inner
 -- functions alone; Check's promise speaks of the grid's own joins.
 --
---   Frame              (src) the grid's counts n, w, k and its first direction
---   gridOf f           the grid of a frame
+--   counted n w k f    the grid of these counts, with layer 1 horizontal (f: true) or vertical
 --   horizontal f l     layer l + 1 is horizontal
 --   Only a b           the one edge from a to b
 --   Below F top        the edges of F 0, F 1, .. F (top - 1)
@@ -16,8 +15,8 @@
 --   Ends, Pins         from the pins that a layer at q touches, and from all pins
 --   Edges g            all edges
 --   AllShut x m .. r   no edge of a run asks for a mark, just where r is 0
---   Shape f            the counts are those that Check takes
---   Fits f p s x m     the lengths of the pin list, its marks, the points and their marks
+--   Shape g            the counts are those that Check takes
+--   Fits g p s x m     the lengths of the pin list, its marks, the points and their marks
 --   LayerFits, PointsFit, SideFits, EndsFit    what the inner loops ask of these lengths
 use Prim.Native.Nat.{ℕ, _+_, _*_, _-_, _%_, _<_, _≤_}
 use mathlib.Core.Bool.{Bool, true, false}
@@ -25,15 +24,14 @@ use mathlib.Core.Path.{_≡_}
 use mathlib.Core.Logic.{_⊎_}
 use mathlib.Core.List.{List}
 use lib.Dec.{ltb, eqb}
+use Rattle.counting.specs.Counting.{In}
 use Rattle.terms.specs.Kinds.{Side, north, south, west, east}
 use Rattle.terms.specs.Limits.{longestSide, widestGrid, mostLayers}
 use Rattle.grid.specs.Grid.{Grid}
-use Rattle.counting.specs.Counting.{In}
 use Rattle.sweep.specs.Marks.{at, Spot, a-pin, a-point, Shut}
-use Rattle.sweep.specs.declared.Frame.{Frame}
 
-abbrev pub gridOf : Frame → Grid
-gridOf f = record { n = f .n; w = f .w; k = f .k; first = f .first }
+abbrev pub counted : ℕ → ℕ → ℕ → Bool → Grid
+counted n w k first = record { n = n; w = w; k = k; first = first }
 
 abbrev pub horizontal : Bool → ℕ → Bool
 horizontal true l = eqb (l % 2) 0
@@ -119,14 +117,14 @@ pub record AllShut (x m : List ℕ) (start count gap r : ℕ) : Type 0 where
   pub none : r ≡ 0 → (a b : ℕ) → Run start count gap a b → Shut (at x a) (at x b) (at m a) (at m b) (at m a) (at m b)
   pub some : ((a b : ℕ) → Run start count gap a b → Shut (at x a) (at x b) (at m a) (at m b) (at m a) (at m b)) → r ≡ 0
 
-pub record Shape (f : Frame) : Type 0 where
-  pub long : In (f .n) longestSide
-  pub wide : In (f .w) widestGrid
-  pub deep : In (f .k) mostLayers
+pub record Shape (g : Grid) : Type 0 where
+  pub long : In (g .n) longestSide
+  pub wide : In (g .w) widestGrid
+  pub deep : In (g .k) mostLayers
 
-pub record PointsFit (f : Frame) (x m : ℕ) : Type 0 where
-  pub shape : Shape f
-  pub size : x ≡ f .n * f .w * f .k
+pub record PointsFit (g : Grid) (x m : ℕ) : Type 0 where
+  pub shape : Shape g
+  pub size : x ≡ g .n * g .w * g .k
   pub marks : m ≡ x
 
 pub record SideFits (p s x m first start gap count : ℕ) : Type 0 where
@@ -145,7 +143,7 @@ pub record EndsFit (p s x m q n w : ℕ) : Type 0 where
   pub own : q + n * w ≤ x
   pub marks : x ≤ m
 
-pub record Fits (f : Frame) (p s x m : ℕ) : Type 0 where
+pub record Fits (g : Grid) (p s x m : ℕ) : Type 0 where
   pub pins : p ≡ pinPlaces
   pub pin-marks : s ≡ pinPlaces
-  pub points : PointsFit f x m
+  pub points : PointsFit g x m

@@ -1,14 +1,20 @@
 // Sweeps over the joins of a wiring: a sweep marks whatever is joined to what was marked before it, along edges between equal
 // numbers. Points and their marks stand in the buffer's order; the pins of the four sides, and their marks, in lists of PIN_PLACES.
+use grid::Frame;
+use grid::column_count;
+use grid::layer_count;
+use grid::track_count;
 use terms::LONGEST_SIDE;
 use terms::WIDEST_GRID;
+use terms::larger_byte;
 ghost use mathlib.Core.Path.{_≡_};
 ghost use mathlib.Core.Bool.{true};
-ghost use mathlib.Core.Logic.{_⊎_};
 ghost use Prim.Native.Nat.{ℕ, _+_, _*_, _-_, _≤_, _<_};
 ghost use lib.ListN.{length};
 ghost use Rattle.sweep.specs.Marks.{at, a-pin, a-point, val, one, two, Shut, Swept, Aged, Settled};
-ghost use Rattle.sweep.specs.Edges.{gridOf, horizontal, Only, When, Run, Rows, Layer, Points, PinRun, Ends, Pins, Edges, LayerFits, PointsFit, SideFits, EndsFit, Fits, AllShut};
+ghost use Rattle.grid.specs.Grid.{gridOf};
+ghost use Rattle.sweep.specs.Edges.{counted, horizontal, Only, When, Run, Rows, Layer, Points, PinRun, Ends, Pins, Edges};
+ghost use Rattle.sweep.specs.Edges.{LayerFits, PointsFit, SideFits, EndsFit, Fits, AllShut};
 
 // Where the places of these sides start in the pin list, in which those of north come first, and its length.
 pub const SOUTH_START: usize = LONGEST_SIDE;
@@ -18,14 +24,6 @@ pub const WEST_START: usize = 2 * LONGEST_SIDE;
 pub const EAST_START: usize = 2 * LONGEST_SIDE + WIDEST_GRID;
 
 pub const PIN_PLACES: usize = 2 * LONGEST_SIDE + 2 * WIDEST_GRID;
-
-// The grid's counts, and whether its first layer is horizontal.
-pub struct Frame {
-    pub n: usize,
-    pub w: usize,
-    pub k: usize,
-    pub first: bool,
-}
 
 // Whether layer l + 1 is horizontal.
 pub fn is_horizontal(l: usize, first: bool) -> bool
@@ -56,12 +54,6 @@ fn open(va: u8, vb: u8, ma: u8, mb: u8) -> u8
     1
 }
 
-fn larger(a: u8, b: u8) -> u8
-    ensures { λ r. ⌜ (a ≤ r) × (b ≤ r) × ((r ≡ a) ⊎ (r ≡ b)) ⌝ }
-{
-    if a < b { b } else { a }
-}
-
 // 0 where no edge of a run asks for a mark, else more. It only reads, so that the compiler can take many points at a time.
 fn any_open(x: &[u8], m: &[u8], start: usize, count: usize, gap: usize) -> u8
     requires { ⌜ (start + count + gap ≤ length (now x)) × (length (now x) ≤ length (now m)) ⌝ }
@@ -71,7 +63,7 @@ fn any_open(x: &[u8], m: &[u8], start: usize, count: usize, gap: usize) -> u8
     for t in 0..count {
         let a = start + t;
         let b = a + gap;
-        found = larger(found, open(x[a], x[b], m[a], m[b]));
+        found = larger_byte(found, open(x[a], x[b], m[a], m[b]));
     }
     found
 }
@@ -164,14 +156,10 @@ fn layer(x: &[u8], m: &mut [u8], q: usize, n: usize, w: usize, above: bool, flat
 }
 
 // All edges between points.
-fn points(x: &[u8], m: &mut [u8], f: Frame) -> usize
-    requires { ⌜ PointsFit f (length (now x)) (length (now m)) ⌝ }
-    ensures { λ r. ⌜ Swept (at (now (x .entry))) (one (now (m .entry))) (one (now (m .exit))) (Points (gridOf f)) r ⌝ }
+fn points(x: &[u8], m: &mut [u8], n: usize, w: usize, k: usize, first: bool) -> usize
+    requires { ⌜ PointsFit (counted n w k first) (length (now x)) (length (now m)) ⌝ }
+    ensures { λ r. ⌜ Swept (at (now (x .entry))) (one (now (m .entry))) (one (now (m .exit))) (Points (counted n w k first)) r ⌝ }
 {
-    let n = f.n;
-    let w = f.w;
-    let k = f.k;
-    let first = f.first;
     let mut made: usize = 0;
     let mut from: usize = 0;
     for l in 0..k {
@@ -184,7 +172,8 @@ fn points(x: &[u8], m: &mut [u8], f: Frame) -> usize
 // The edge from pin a to point b.
 fn touch(p: &[u8], s: &mut [u8], a: usize, x: &[u8], m: &mut [u8], b: usize) -> usize
     requires { ⌜ (a < length (now p)) × (length (now p) ≤ length (now s)) × (b < length (now x)) × (length (now x) ≤ length (now m)) ⌝ }
-    ensures { λ r. ⌜ Swept (val (now (p .entry)) (now (x .entry))) (two (now (s .entry)) (now (m .entry))) (two (now (s .exit)) (now (m .exit))) (Only (a-pin a) (a-point b)) r ⌝ }
+    ensures { λ r. ⌜ Swept (val (now (p .entry)) (now (x .entry))) (two (now (s .entry)) (now (m .entry)))
+        (two (now (s .exit)) (now (m .exit))) (Only (a-pin a) (a-point b)) r ⌝ }
 {
     if p[a] != x[b] {
         return 0;
@@ -219,7 +208,8 @@ fn side(
     count: usize,
 ) -> usize
     requires { ⌜ SideFits (length (now p)) (length (now s)) (length (now x)) (length (now m)) first start gap count ⌝ }
-    ensures { λ r. ⌜ Swept (val (now (p .entry)) (now (x .entry))) (two (now (s .entry)) (now (m .entry))) (two (now (s .exit)) (now (m .exit))) (PinRun first start gap count) r ⌝ }
+    ensures { λ r. ⌜ Swept (val (now (p .entry)) (now (x .entry))) (two (now (s .entry)) (now (m .entry)))
+        (two (now (s .exit)) (now (m .exit))) (PinRun first start gap count) r ⌝ }
 {
     let mut made: usize = 0;
     let mut from: usize = start;
@@ -242,7 +232,8 @@ fn ends(
     flat: bool,
 ) -> usize
     requires { ⌜ EndsFit (length (now p)) (length (now s)) (length (now x)) (length (now m)) q n w ⌝ }
-    ensures { λ r. ⌜ Swept (val (now (p .entry)) (now (x .entry))) (two (now (s .entry)) (now (m .entry))) (two (now (s .exit)) (now (m .exit))) (Ends q n w flat) r ⌝ }
+    ensures { λ r. ⌜ Swept (val (now (p .entry)) (now (x .entry))) (two (now (s .entry)) (now (m .entry)))
+        (two (now (s .exit)) (now (m .exit))) (Ends q n w flat) r ⌝ }
 {
     if flat {
         let west = side(p, s, WEST_START, x, m, q, n, w);
@@ -255,14 +246,20 @@ fn ends(
 }
 
 // All edges from pins.
-fn pins(p: &[u8], s: &mut [u8], x: &[u8], m: &mut [u8], f: Frame) -> usize
-    requires { ⌜ Fits f (length (now p)) (length (now s)) (length (now x)) (length (now m)) ⌝ }
-    ensures { λ r. ⌜ Swept (val (now (p .entry)) (now (x .entry))) (two (now (s .entry)) (now (m .entry))) (two (now (s .exit)) (now (m .exit))) (Pins (gridOf f)) r ⌝ }
+fn pins(
+    p: &[u8],
+    s: &mut [u8],
+    x: &[u8],
+    m: &mut [u8],
+    n: usize,
+    w: usize,
+    k: usize,
+    first: bool,
+) -> usize
+    requires { ⌜ Fits (counted n w k first) (length (now p)) (length (now s)) (length (now x)) (length (now m)) ⌝ }
+    ensures { λ r. ⌜ Swept (val (now (p .entry)) (now (x .entry))) (two (now (s .entry)) (now (m .entry)))
+        (two (now (s .exit)) (now (m .exit))) (Pins (counted n w k first)) r ⌝ }
 {
-    let n = f.n;
-    let w = f.w;
-    let k = f.k;
-    let first = f.first;
     let mut made: usize = 0;
     let mut from: usize = 0;
     for l in 0..k {
@@ -274,11 +271,15 @@ fn pins(p: &[u8], s: &mut [u8], x: &[u8], m: &mut [u8], f: Frame) -> usize
 
 // One sweep over all edges. How many marks it made. (For our own crates.)
 pub fn sweep(p: &[u8], s: &mut [u8], x: &[u8], m: &mut [u8], f: Frame) -> usize
-    requires { ⌜ Fits f (length (now p)) (length (now s)) (length (now x)) (length (now m)) ⌝ }
-    ensures { λ r. ⌜ Swept (val (now (p .entry)) (now (x .entry))) (two (now (s .entry)) (now (m .entry))) (two (now (s .exit)) (now (m .exit))) (Edges (gridOf f)) r ⌝ }
+    requires { ⌜ Fits (gridOf f) (length (now p)) (length (now s)) (length (now x)) (length (now m)) ⌝ }
+    ensures { λ r. ⌜ Swept (val (now (p .entry)) (now (x .entry))) (two (now (s .entry)) (now (m .entry)))
+        (two (now (s .exit)) (now (m .exit))) (Edges (gridOf f)) r ⌝ }
 {
-    let a = points(x, m, f);
-    let b = pins(p, s, x, m, f);
+    let n = column_count(f.n);
+    let w = track_count(f.w);
+    let k = layer_count(f.k);
+    let a = points(x, m, n, w, k, f.first);
+    let b = pins(p, s, x, m, n, w, k, f.first);
     a + b
 }
 
@@ -299,8 +300,9 @@ pub fn age(m: &mut [u8])
 
 // Sweeps until one makes no mark. (For our own crates.)
 pub fn settle(p: &[u8], s: &mut [u8], x: &[u8], m: &mut [u8], f: Frame)
-    requires { ⌜ Fits f (length (now p)) (length (now s)) (length (now x)) (length (now m)) ⌝ }
-    ensures { λ r. ⌜ Settled (val (now (p .entry)) (now (x .entry))) (two (now (s .entry)) (now (m .entry))) (two (now (s .exit)) (now (m .exit))) (Edges (gridOf f)) ⌝ }
+    requires { ⌜ Fits (gridOf f) (length (now p)) (length (now s)) (length (now x)) (length (now m)) ⌝ }
+    ensures { λ r. ⌜ Settled (val (now (p .entry)) (now (x .entry))) (two (now (s .entry)) (now (m .entry)))
+        (two (now (s .exit)) (now (m .exit))) (Edges (gridOf f)) ⌝ }
 {
     let mut made: usize = 1;
     while made != 0 {

@@ -9,13 +9,12 @@ use lib.ListN.{length, set}
 use lib.Seq.{getD-set-same}
 use Rattle.grid.specs.Grid.{Grid}
 use Rattle.sweep.specs.Marks.{at, Spot, a-pin, a-point, val, State, two, Reach, here, on, back, Grown}
-use Rattle.sweep.specs.Edges.{gridOf, horizontal, Edges, PointsFit}
-use Rattle.sweep.specs.declared.Frame.{Frame}
+use Rattle.sweep.specs.Edges.{horizontal, Edges}
 use Rattle.sweep.proofs.Zeros.{elsewhere}
 use Rattle.sweep.proofs.Settling.{grown-none, grown-then}
 use Rattle.walk.specs.declared.Cell.{Cell}
 use Rattle.walk.specs.Walk.{On, Tip, Stepped, Claimed, Moved, Met, Pinned, Ready}
-use Rattle.walk.proofs.Steps.{small, tip-edge}
+use Rattle.walk.proofs.Steps.{in-buffer, tip-edge}
 
 -- one more mark, at b, which is reached
 grown-mark : {A : Type 0} {v : A → ℕ} {σ σ′ : State A} {E : A → A → Type 0} (b : A)
@@ -52,58 +51,63 @@ module _ (p s x m : List ℕ) {E : Spot → Spot → Type 0} where
       rest (a-point q) = inr refl
 
 -- another mark where there was one
-pub remarked : (p s x m : List ℕ) {E : Spot → Spot → Type 0} (a d : ℕ) → a < length s → at s a ≢ 0 → d ≢ 0 → Grown (val p x) (two s m) (two (set s a d) m) E
-remarked p s x m a d h k nz = grown-mark (a-pin a) rest (λ z. nz (sym (getD-set-same s a d 0 h) ∙ z)) (here k)
+pub remarked : {p s x m : List ℕ} {E : Spot → Spot → Type 0} {a d : ℕ} → a < length s → at s a ≢ 0 → d ≢ 0
+    → Grown (val p x) (two s m) (two (set s a d) m) E
+remarked {s = s} {m = m} {a = a} {d = d} h k nz = grown-mark (a-pin a) rest (λ z. nz (sym (getD-set-same s a d 0 h) ∙ z)) (here k)
   where
     rest : (c : Spot) → (c ≡ a-pin a) ⊎ (val (set s a d) m c ≡ val s m c)
     rest (a-pin b) = ⊎-elim (λ e. inl (ap a-pin e)) inr (elsewhere s a d b)
     rest (a-point q) = inr refl
 
 -- a cell beside a marked one that holds the same is reached
-pub near-reach : (g : Grid) (p s x m : List ℕ) (c r : Cell) → Stepped g c r → at m (c .q) ≢ 0 → at x (c .q) ≡ at x (r .q)
+near-reach : {g : Grid} (p s x m : List ℕ) {c r : Cell} → Stepped g c r → at m (c .q) ≢ 0 → at x (c .q) ≡ at x (r .q)
     → Reach (val p x) (val s m) (Edges g) (a-point (r .q))
-near-reach g p s x m c r t h q =
+near-reach {g} p s x m t h q =
     ⊎-elim (λ e. subst (λ (b : ℕ). Reach (val p x) (val s m) (Edges g) (a-point b)) e (here h))
     (⊎-elim (λ e. on (here h) e q) (λ e. back (here h) e (sym q))) (t .near)
 
--- ---- a step over the points
+-- ---- a try to mark the cell `to` beside c
 
-pub within : (f : Frame) (x m : List ℕ) (c : Cell) → PointsFit f (length x) (length m) → On (gridOf f) c → (c .q < length x) × (c .q < length m)
-within f x m c fits o = let h = small f c (fits .shape) o in omega (arith, fits)
+module _ {g : Grid} {x m m′ : List ℕ} {c to : Cell} {v d : ℕ} {r : Bool}
+    (y : Ready g x m c v) (t : Stepped g c to) (k : Claimed x m m′ (to .q) v d r) (nz : d ≢ 0) where
+  tried : (p s : List ℕ) → Grown (val p x) (two s m) (two s m′) (Edges g)
+  tried p s =
+      claimed-point p s x m m′ (to .q) v d r k (in-buffer (y .fits) (t .cell) .1) nz (λ e. near-reach p s x m t (y .marked) (y .holds ∙ sym e))
 
-pub tried : (f : Frame) (x m m′ : List ℕ) (c to : Cell) (v d : ℕ) (r : Bool) → Ready f x m c v → Stepped (gridOf f) c to → Claimed x m m′ (to .q) v d r → d ≢ 0
-    → (p s : List ℕ) → Grown (val p x) (two s m) (two s m′) (Edges (gridOf f))
-tried f x m m′ c to v d r y t h nz p s =
-    claimed-point p s x m m′ (to .q) v d r h (within f x m to (y .fits) (t .cell) .1) nz
-    (λ e. near-reach (gridOf f) p s x m c to t (y .marked) (y .holds ∙ sym e))
+  -- whoever goes on there, or elsewhere
+  pub moved-to : {z : Cell} → On g z → Moved g x m m′ z
+  moved-to o = record { cell = o; grown = tried }
 
-pub still-ready : (f : Frame) (x m m′ : List ℕ) (c : Cell) (v : ℕ) → Ready f x m c v
-    → ((p s : List ℕ) → Grown (val p x) (two s m) (two s m′) (Edges (gridOf f))) → length m′ ≡ length m → Ready f x m′ c v
-still-ready f x m m′ c v y g e =
-    record {
-      fits = record { shape = y .fits .shape; size = y .fits .size; marks = e ∙ y .fits .marks };
-      cell = y .cell;
-      marked = g [] [] .keep (a-point (c .q)) (y .marked);
-      holds = y .holds;
-    }
+  pub moved-then : {m″ : List ℕ} {z : Cell} → Moved g x m′ m″ z → Moved g x m m″ z
+  moved-then h = record { cell = h .cell; grown = λ p s. grown-then (tried p s) (h .grown p s) }
 
-pub moved-then : (g : Grid) (x m m₁ m₂ : List ℕ) (r : Cell) → ((p s : List ℕ) → Grown (val p x) (two s m) (two s m₁) (Edges g)) → Moved g x m₁ m₂ r → Moved g x m m₂ r
-moved-then g x m m₁ m₂ r h t = record { cell = t .cell; grown = λ p s. grown-then (h p s) (t .grown p s) }
+  pub still-ready : length m′ ≡ length m → Ready g x m′ c v
+  still-ready e =
+      record {
+        fits = record { shape = y .fits .shape; size = y .fits .size; marks = e ∙ y .fits .marks };
+        cell = y .cell;
+        marked = tried [] [] .keep (a-point (c .q)) (y .marked);
+        holds = y .holds;
+      }
 
 -- ---- the pins that a cell touches
 
-pub met-one : (g : Grid) (c : Cell) → On g c → (p s s′ : List ℕ) (a v : ℕ) (h r : Bool) → Claimed p s s′ a v 1 r → a < length s
-    → horizontal (g .first) (c .l) ≡ h → (r ≡ true → Tip g a (c .i) (c .j) h) → Met g p s s′ (c .q) v
-met-one g c o p s s′ a v h r t l e f = record {
-  grown = λ x m q k. claimed-pin p s x m s′ a v 1 r t l (λ z. omega arith) (λ y w. back (here k) (tip-edge g c o a h e (f y)) (w ∙ sym q));
+pub met-none : {g : Grid} {p s : List ℕ} {q v : ℕ} → Met g p s s q v
+met-none = record { grown = λ x m e k. grown-none }
+
+pub met-one : {g : Grid} {c : Cell} {p s s′ : List ℕ} {a v : ℕ} {h r : Bool} → On g c → horizontal (g .first) (c .l) ≡ h → Claimed p s s′ a v 1 r
+    → a < length s
+    → (r ≡ true → Tip g a (c .i) (c .j) h) → Met g p s s′ (c .q) v
+met-one {p = p} {s} {s′} {a} {v} {h} {r} o e t l f = record {
+  grown = λ x m q k. claimed-pin p s x m s′ a v 1 r t l (λ z. omega arith) (λ y w. back (here k) (tip-edge o a h e (f y)) (w ∙ sym q));
 }
 
-pub met-then : (g : Grid) (p s s₁ s₂ : List ℕ) (q v : ℕ) → Met g p s s₁ q v → Met g p s₁ s₂ q v → Met g p s s₂ q v
-met-then g p s s₁ s₂ q v a b = record { grown = λ x m e k. grown-then (a .grown x m e k) (b .grown x m e k) }
+pub met-then : {g : Grid} {p s s₁ s₂ : List ℕ} {q v : ℕ} → Met g p s s₁ q v → Met g p s₁ s₂ q v → Met g p s s₂ q v
+met-then a b = record { grown = λ x m e k. grown-then (a .grown x m e k) (b .grown x m e k) }
 
 -- ---- from a pin to the cell that it touches
 
-pub begun : (g : Grid) (p s x m m′ : List ℕ) (a : ℕ) (c : Cell) (flat r : Bool) → Pinned g s a c flat → horizontal (g .first) (c .l) ≡ flat
+pub begun : {g : Grid} {p s x m m′ : List ℕ} {a : ℕ} {c : Cell} {flat r : Bool} → Pinned g s a c flat → horizontal (g .first) (c .l) ≡ flat
     → Claimed x m m′ (c .q) (at p a) 5 r → c .q < length m → Grown (val p x) (two s m) (two s m′) (Edges g)
-begun g p s x m m′ a c flat r h e t l =
-    claimed-point p s x m m′ (c .q) (at p a) 5 r t l (λ z. omega arith) (λ q. on (here (h .marked)) (tip-edge g c (h .cell) a flat e (h .tip)) (sym q))
+begun {p = p} {s} {x} {m} {m′} {a} {c} {flat} {r} h e t l =
+    claimed-point p s x m m′ (c .q) (at p a) 5 r t l (λ z. omega arith) (λ q. on (here (h .marked)) (tip-edge (h .cell) a flat e (h .tip)) (sym q))

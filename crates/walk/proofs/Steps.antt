@@ -1,16 +1,16 @@
 -- A step from a cell to the next is an edge, because the cells stand where the joined nodes do.
 use Prim.Native.Nat.{ℕ, suc, _+_, _*_, _-_, _≤_, _<_}
-use mathlib.Core.Path.{_≡_, refl, sym, ap, _∙_, subst₂}
+use mathlib.Core.Path.{_≡_, refl, sym, ap, _∙_, subst, subst₂}
 use mathlib.Core.Logic.{inl, inr}
 use mathlib.Core.Bool.{Bool, true, false}
 use native.Mathlib.Omega.{arith}
-use native.Mathlib.Nat.{mul-le-mul-left}
+use native.Mathlib.Nat.{zero-mul}
 use Rattle.terms.specs.Limits.{longestSide, widestGrid, mostLayers}
 use Rattle.terms.specs.Kinds.{north, south, west, east}
 use Rattle.grid.specs.Grid.{Grid, Node, pin, point, Inside, Edge, along-column, along-track, via, north-pin, south-pin, west-pin, east-pin}
+use Rattle.grid.proofs.Sizes.{area-le, points-le}
 use Rattle.sweep.specs.Marks.{Spot, a-pin, a-point}
-use Rattle.sweep.specs.Edges.{gridOf, horizontal, Edges, Shape}
-use Rattle.sweep.specs.declared.Frame.{Frame}
+use Rattle.sweep.specs.Edges.{horizontal, Edges, Shape, PointsFit}
 use Rattle.sweep.proofs.Offsets.{rows-in, next-row}
 use Rattle.sweep.proofs.Places.{spot, edge-of, index-cell, is-horizontal, is-vertical}
 use Rattle.walk.specs.declared.Cell.{Cell}
@@ -18,29 +18,40 @@ use Rattle.walk.specs.Walk.{On, Tip, north-tip, south-tip, west-tip, eas
 
 -- ---- sizes
 
-pub record Small (f : Frame) (c : Cell) : Type 0 where
-  pub inside : c .q < f .n * f .w * f .k
-  pub size : f .n * f .w * f .k ≤ longestSide * widestGrid * mostLayers
-  pub area : f .n * f .w ≤ longestSide * widestGrid
+pub record Small (g : Grid) (c : Cell) : Type 0 where
+  pub inside : c .q < g .n * g .w * g .k
+  pub size : g .n * g .w * g .k ≤ longestSide * widestGrid * mostLayers
+  pub area : g .n * g .w ≤ longestSide * widestGrid
 
-pub small : (f : Frame) (c : Cell) → Shape f → On (gridOf f) c → Small f c
-small f c s o =
-    let a : f .n * f .w ≤ longestSide * widestGrid = omega (arith, s, mul-le-mul-left (f .n) (s .wide .1)) in
-    let b : f .n * f .w * f .k ≤ f .n * f .w * mostLayers = mul-le-mul-left (f .n * f .w) (s .deep .1) in
+pub small : {g : Grid} {c : Cell} → Shape g → On g c → Small g c
+small {g} {c} s o =
     record {
-      inside = omega (arith, o, rows-in (c .l) (f .k) (f .n * f .w) (o .layer), rows-in (c .j) (f .w) (f .n) (o .track));
-      size = omega arith;
-      area = a;
+      inside = omega (arith, o, rows-in (c .l) (g .k) (g .n * g .w) (o .layer), rows-in (c .j) (g .w) (g .n) (o .track));
+      size = points-le (g .n) (g .w) (g .k) (s .long .1) (s .wide .1) (s .deep .1);
+      area = area-le (g .n) (g .w) (s .long .1) (s .wide .1);
+    }
+
+pub in-buffer : {g : Grid} {x m : ℕ} {c : Cell} → PointsFit g x m → On g c → (c .q < x) × (c .q < m)
+in-buffer fits o = let h = small (fits .shape) o in omega (arith, h .inside, fits)
+
+-- a point of the first layer
+pub on-first : {g : Grid} {i j n d : ℕ} → n ≡ g .n → i < g .n → j < g .w → 1 ≤ g .k → On g (record { q = j * n + i; i = i; j = j; l = 0; d = d })
+on-first {g} {i} {j} e a b c =
+    record {
+      column = a;
+      track = b;
+      layer = c;
+      is = omega (arith, ap (λ (u : ℕ). j * u) e, zero-mul (g .n * g .w));
     }
 
 less : (a b : ℕ) → 0 < a → a * b ≡ (a - 1) * b + b
 less a b h = ap (λ (u : ℕ). u * b) (omega arith) ∙ next-row (a - 1) b
 
-pub row-before : (g : Grid) (c : Cell) → On g c → 0 < c .j → g .n ≤ c .q
-row-before g c o h = omega (arith, o .is, less (c .j) (g .n) h)
+pub row-before : {g : Grid} {c : Cell} → On g c → 0 < c .j → g .n ≤ c .q
+row-before {g} {c} o h = omega (arith, o .is, less (c .j) (g .n) h)
 
-pub layer-before : (g : Grid) (c : Cell) → On g c → 0 < c .l → g .n * g .w ≤ c .q
-layer-before g c o h = omega (arith, o .is, less (c .l) (g .n * g .w) h)
+pub layer-before : {g : Grid} {c : Cell} → On g c → 0 < c .l → g .n * g .w ≤ c .q
+layer-before {g} {c} o h = omega (arith, o .is, less (c .l) (g .n * g .w) h)
 
 -- ---- cells and nodes
 
@@ -56,93 +67,87 @@ module _ (g : Grid) where
   unfolding node
   node-at c o = ap a-point (index-cell g (c .i) (c .j) (c .l) ∙ sym (o .is))
 
-  edge-at : (u v : Node) (a b : Spot) → Inside g u → Inside g v → spot g u ≡ a → spot g v ≡ b → Edge g u v → Edges g a b
-  edge-at u v a b x y p q e = subst₂ (λ (s t : Spot). Edges g s t) p q (edge-of g u v x y e)
+  same-node : {i j l i′ j′ l′ : ℕ} → i ≡ i′ → j ≡ j′ → l ≡ l′ → point i j l ≡ point i′ j′ l′
+  same-node a b c d = point (a d) (b d) (c d)
 
   -- from cell to cell
-  hop : (c r : Cell) → On g c → On g r → (v : Node) → v ≡ node r → Edge g (node c) v → Edges g (a-point (c .q)) (a-point (r .q))
-  hop c r o h v e d = edge-at (node c) (node r) _ _ (node-in c o) (node-in r h) (node-at c o) (node-at r h) (subst₂ (λ (s t : Node). Edge g s t) refl e d)
-
-module _ (g : Grid) (c : Cell) (o : On g c) where
-  pub stay : (d : ℕ) → Stepped g c (record { q = c .q; i = c .i; j = c .j; l = c .l; d = d })
-  stay d = record { cell = record { column = o .column; track = o .track; layer = o .layer; is = o .is }; near = inl refl }
-
-  pub step-right : (d : ℕ) → horizontal (g .first) (c .l) ≡ true → c .i + 1 < g .n → Stepped g c (record { q = c .q + 1; i = c .i + 1; j = c .j; l = c .l; d = d })
+  hop : (c r : Cell) → On g c → On g r → {i j l : ℕ} → Edge g (node c) (point i j l) → i ≡ suc (r .i) → j ≡ suc (r .j) → l ≡ suc (r .l)
+      → Edges g (a-point (c .q)) (a-point (r .q))
   unfolding node
-  step-right d f h =
+  hop c r o h d x y z =
+      subst₂ (λ (s t : Spot). Edges g s t) (node-at c o) (node-at r h)
+      (edge-of g (node c) (node r) (node-in c o) (node-in r h) (subst (Edge g (node c)) (same-node x y z) d))
+
+module _ {g : Grid} {c : Cell} (o : On g c) where
+  pub stay : {d : ℕ} → Stepped g c (record { q = c .q; i = c .i; j = c .j; l = c .l; d = d })
+  stay = record { cell = record { column = o .column; track = o .track; layer = o .layer; is = o .is }; near = inl refl }
+
+  pub step-right : {d : ℕ} → horizontal (g .first) (c .l) ≡ true → c .i + 1 < g .n
+      → Stepped g c (record { q = c .q + 1; i = c .i + 1; j = c .j; l = c .l; d = d })
+  unfolding node
+  step-right {d} f h =
       let r : Cell = record { q = c .q + 1; i = c .i + 1; j = c .j; l = c .l; d = d } in
       let p : On g r = record { column = h; track = o .track; layer = o .layer; is = omega (arith, o .is) } in
-      record {
-        cell = p;
-        near = inr (inl (hop g c r o p (point (suc (suc (c .i))) (suc (c .j)) (suc (c .l))) (ap (λ (z : ℕ). point z (suc (c .j)) (suc (c .l))) (omega arith))
-            (along-track (is-horizontal (g .first) (c .l) f))));
-      }
+      record { cell = p; near = inr (inl (hop g c r o p (along-track (is-horizontal (g .first) (c .l) f)) (omega arith) refl refl)) }
 
-  pub step-left : (d : ℕ) → horizontal (g .first) (c .l) ≡ true → 0 < c .i → Stepped g c (record { q = c .q - 1; i = c .i - 1; j = c .j; l = c .l; d = d })
+  pub step-left : {d : ℕ} → horizontal (g .first) (c .l) ≡ true → 0 < c .i
+      → Stepped g c (record { q = c .q - 1; i = c .i - 1; j = c .j; l = c .l; d = d })
   unfolding node
-  step-left d f h =
+  step-left {d} f h =
       let r : Cell = record { q = c .q - 1; i = c .i - 1; j = c .j; l = c .l; d = d } in
       let p : On g r = record { column = omega (arith, o .column); track = o .track; layer = o .layer; is = omega (arith, o .is) } in
-      record {
-        cell = p;
-        near = inr (inr (hop g r c p o (point (suc (suc (c .i - 1))) (suc (c .j)) (suc (c .l))) (ap (λ (z : ℕ). point z (suc (c .j)) (suc (c .l))) (omega arith))
-            (along-track (is-horizontal (g .first) (c .l) f))));
-      }
+      record { cell = p; near = inr (inr (hop g r c p o (along-track (is-horizontal (g .first) (c .l) f)) (omega arith) refl refl)) }
 
-  pub step-on : (d : ℕ) → horizontal (g .first) (c .l) ≡ false → c .j + 1 < g .w → Stepped g c (record { q = c .q + g .n; i = c .i; j = c .j + 1; l = c .l; d = d })
+  pub step-on : {d n : ℕ} → horizontal (g .first) (c .l) ≡ false → n ≡ g .n → c .j + 1 < g .w
+      → Stepped g c (record { q = c .q + n; i = c .i; j = c .j + 1; l = c .l; d = d })
   unfolding node
-  step-on d f h =
-      let r : Cell = record { q = c .q + g .n; i = c .i; j = c .j + 1; l = c .l; d = d } in
+  step-on {d} {n} f b h =
+      let r : Cell = record { q = c .q + n; i = c .i; j = c .j + 1; l = c .l; d = d } in
       let p : On g r = record { column = o .column; track = h; layer = o .layer; is = omega (arith, o .is, next-row (c .j) (g .n)) } in
-      record {
-        cell = p;
-        near = inr (inl (hop g c r o p (point (suc (c .i)) (suc (suc (c .j))) (suc (c .l))) (ap (λ (z : ℕ). point (suc (c .i)) z (suc (c .l))) (omega arith))
-            (along-column (is-vertical (g .first) (c .l) f))));
-      }
+      record { cell = p; near = inr (inl (hop g c r o p (along-column (is-vertical (g .first) (c .l) f)) refl (omega arith) refl)) }
 
-  pub step-back : (d : ℕ) → horizontal (g .first) (c .l) ≡ false → 0 < c .j → Stepped g c (record { q = c .q - g .n; i = c .i; j = c .j - 1; l = c .l; d = d })
+  pub step-back : {d n : ℕ} → horizontal (g .first) (c .l) ≡ false → n ≡ g .n → 0 < c .j
+      → Stepped g c (record { q = c .q - n; i = c .i; j = c .j - 1; l = c .l; d = d })
   unfolding node
-  step-back d f h =
-      let r : Cell = record { q = c .q - g .n; i = c .i; j = c .j - 1; l = c .l; d = d } in
+  step-back {d} {n} f b h =
+      let r : Cell = record { q = c .q - n; i = c .i; j = c .j - 1; l = c .l; d = d } in
       let p : On g r = record { column = o .column; track = omega (arith, o .track); layer = o .layer; is = omega (arith, o .is, less (c .j) (g .n) h) } in
-      record {
-        cell = p;
-        near = inr (inr (hop g r c p o (point (suc (c .i)) (suc (suc (c .j - 1))) (suc (c .l))) (ap (λ (z : ℕ). point (suc (c .i)) z (suc (c .l))) (omega arith))
-            (along-column (is-vertical (g .first) (c .l) f))));
-      }
+      record { cell = p; near = inr (inr (hop g r c p o (along-column (is-vertical (g .first) (c .l) f)) refl (omega arith) refl)) }
 
-  pub step-up : (d : ℕ) → c .l + 1 < g .k → Stepped g c (record { q = c .q + g .n * g .w; i = c .i; j = c .j; l = c .l + 1; d = d })
+  pub step-up : {d a : ℕ} → a ≡ g .n * g .w → c .l + 1 < g .k → Stepped g c (record { q = c .q + a; i = c .i; j = c .j; l = c .l + 1; d = d })
   unfolding node
-  step-up d h =
-      let r : Cell = record { q = c .q + g .n * g .w; i = c .i; j = c .j; l = c .l + 1; d = d } in
+  step-up {d} {a} b h =
+      let r : Cell = record { q = c .q + a; i = c .i; j = c .j; l = c .l + 1; d = d } in
       let p : On g r = record { column = o .column; track = o .track; layer = h; is = omega (arith, o .is, next-row (c .l) (g .n * g .w)) } in
-      record {
-        cell = p;
-        near = inr (inl (hop g c r o p (point (suc (c .i)) (suc (c .j)) (suc (suc (c .l)))) (ap (λ (z : ℕ). point (suc (c .i)) (suc (c .j)) z) (omega arith)) via));
-      }
+      record { cell = p; near = inr (inl (hop g c r o p via refl refl (omega arith))) }
 
-  pub step-down : (d : ℕ) → 0 < c .l → Stepped g c (record { q = c .q - g .n * g .w; i = c .i; j = c .j; l = c .l - 1; d = d })
+  pub step-down : {d a : ℕ} → a ≡ g .n * g .w → 0 < c .l → Stepped g c (record { q = c .q - a; i = c .i; j = c .j; l = c .l - 1; d = d })
   unfolding node
-  step-down d h =
-      let r : Cell = record { q = c .q - g .n * g .w; i = c .i; j = c .j; l = c .l - 1; d = d } in
-      let p : On g r = record { column = o .column; track = o .track; layer = omega (arith, o .layer); is = omega (arith, o .is, less (c .l) (g .n * g .w) h) } in
-      record {
-        cell = p;
-        near = inr (inr (hop g r c p o (point (suc (c .i)) (suc (c .j)) (suc (suc (c .l - 1)))) (ap (λ (z : ℕ). point (suc (c .i)) (suc (c .j)) z) (omega arith)) via));
-      }
+  step-down {d} {a} b h =
+      let r : Cell = record { q = c .q - a; i = c .i; j = c .j; l = c .l - 1; d = d } in
+      let p : On g r = record {
+        column = o .column;
+        track = o .track;
+        layer = omega (arith, o .layer);
+        is = omega
+            (arith, o .is, less (c .l) (g .n * g .w) h);
+      } in
+      record { cell = p; near = inr (inr (hop g r c p o via refl refl (omega arith))) }
 
   -- the pins that a cell touches
-  pub tip-edge : (a : ℕ) (h : Bool) → horizontal (g .first) (c .l) ≡ h → Tip g a (c .i) (c .j) h → Edges g (a-pin a) (a-point (c .q))
+  pin-edge : (u : Node) {a i j l : ℕ} → Inside g u → spot g u ≡ a-pin a → Edge g u (point i j l)
+      → i ≡ suc (c .i) → j ≡ suc (c .j) → l ≡ suc (c .l) → Edges g (a-pin a) (a-point (c .q))
   unfolding node
+  pin-edge u i p d x y z =
+      subst₂ (λ (s t : Spot). Edges g s t) p (node-at g c o)
+      (edge-of g u (node g c) i (node-in g c o) (subst (Edge g u) (same-node g x y z) d))
+
+  pub tip-edge : (a : ℕ) (h : Bool) → horizontal (g .first) (c .l) ≡ h → Tip g a (c .i) (c .j) h → Edges g (a-pin a) (a-point (c .q))
   tip-edge a h e (north-tip p q) =
-      edge-at g (pin north (suc (c .i))) (node g c) _ _ (omega (arith, o)) (node-in g c o) (ap a-pin (omega arith)) (node-at g c o)
-      (subst₂ (λ (s t : Node). Edge g s t) refl (ap (λ (z : ℕ). point (suc (c .i)) z (suc (c .l))) (omega arith)) (north-pin {i = suc (c .i)} (is-vertical (g .first) (c .l) e)))
+      pin-edge (pin north (suc (c .i))) (omega (arith, o)) (ap a-pin (omega arith)) (north-pin (is-vertical (g .first) (c .l) e)) refl (omega arith) refl
   tip-edge a h e (south-tip p q) =
-      edge-at g (pin south (suc (c .i))) (node g c) _ _ (omega (arith, o)) (node-in g c o) (ap a-pin (omega arith)) (node-at g c o)
-      (subst₂ (λ (s t : Node). Edge g s t) refl (ap (λ (z : ℕ). point (suc (c .i)) z (suc (c .l))) (omega arith)) (south-pin {i = suc (c .i)} (is-vertical (g .first) (c .l) e)))
+      pin-edge (pin south (suc (c .i))) (omega (arith, o)) (ap a-pin (omega arith)) (south-pin (is-vertical (g .first) (c .l) e)) refl (omega arith) refl
   tip-edge a h e (west-tip p q) =
-      edge-at g (pin west (suc (c .j))) (node g c) _ _ (omega (arith, o)) (node-in g c o) (ap a-pin (omega arith)) (node-at g c o)
-      (subst₂ (λ (s t : Node). Edge g s t) refl (ap (λ (z : ℕ). point z (suc (c .j)) (suc (c .l))) (omega arith)) (west-pin {j = suc (c .j)} (is-horizontal (g .first) (c .l) e)))
+      pin-edge (pin west (suc (c .j))) (omega (arith, o)) (ap a-pin (omega arith)) (west-pin (is-horizontal (g .first) (c .l) e)) (omega arith) refl refl
   tip-edge a h e (east-tip p q) =
-      edge-at g (pin east (suc (c .j))) (node g c) _ _ (omega (arith, o)) (node-in g c o) (ap a-pin (omega arith)) (node-at g c o)
-      (subst₂ (λ (s t : Node). Edge g s t) refl (ap (λ (z : ℕ). point z (suc (c .j)) (suc (c .l))) (omega arith)) (east-pin {j = suc (c .j)} (is-horizontal (g .first) (c .l) e)))
+      pin-edge (pin east (suc (c .j))) (omega (arith, o)) (ap a-pin (omega arith)) (east-pin (is-horizontal (g .first) (c .l) e)) (omega arith) refl refl

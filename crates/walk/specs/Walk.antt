@@ -1,5 +1,5 @@
--- What a step of the walk does. The walk is there for speed alone: its contract says that what it marks is reached (Grown), no more. Cited by the contracts of inner
--- functions alone; Check's promise speaks of the grid's own joins.
+-- What a step of the walk does. The walk is there for speed alone: its contract says that what it marks is reached (Grown), no more.
+-- Cited by the contracts of inner functions alone; Check's promise speaks of the grid's own joins.
 --
 --   Cell                (src) a point on the way: its place in the buffer, its column, track and layer from 0, the next direction to try
 --   On g c              cell c is a point of the grid, at its place in the buffer
@@ -11,7 +11,7 @@
 --   Met g p s s′ q v    what point q marked among the pins is reached, where q is marked and holds v
 --   Walked g ..         r is a cell, and what was marked is reached
 --   Pinned g s a c h    the marked pin a touches cell c, if c's layer is horizontal (h: true) or vertical
---   Ready f x m c v     a step from cell c can begin: it is marked, and holds v
+--   Ready g x m c v     a step from cell c can begin: it is marked, and holds v
 use Prim.Native.Nat.{ℕ, _+_, _*_, _<_}
 use mathlib.Core.Path.{_≡_}
 use mathlib.Core.Logic.{_⊎_, _≢_}
@@ -20,8 +20,7 @@ use mathlib.Core.List.{List}
 use lib.ListN.{length, set}
 use Rattle.grid.specs.Grid.{Grid}
 use Rattle.sweep.specs.Marks.{at, a-point, val, two, Grown}
-use Rattle.sweep.specs.Edges.{gridOf, Edges, PointsFit, southStart, westStart, eastStart, pinPlaces}
-use Rattle.sweep.specs.declared.Frame.{Frame}
+use Rattle.sweep.specs.Edges.{Edges, PointsFit, southStart, westStart, eastStart, pinPlaces}
 use Rattle.walk.specs.declared.Cell.{Cell}
 
 pub record On (g : Grid) (c : Cell) : Type 0 where
@@ -60,9 +59,9 @@ pub record Walked (g : Grid) (p s s′ x m m′ : List ℕ) (r : Cell) : Type 0 
   pub cell : On g r
   pub grown : Grown (val p x) (two s m) (two s′ m′) (Edges g)
 
-pub record Ready (f : Frame) (x m : List ℕ) (c : Cell) (v : ℕ) : Type 0 where
-  pub fits : PointsFit f (length x) (length m)
-  pub cell : On (gridOf f) c
+pub record Ready (g : Grid) (x m : List ℕ) (c : Cell) (v : ℕ) : Type 0 where
+  pub fits : PointsFit g (length x) (length m)
+  pub cell : On g c
   pub marked : at m (c .q) ≢ 0
   pub holds : at x (c .q) ≡ v
 

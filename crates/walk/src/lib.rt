@@ -3,19 +3,25 @@
 //
 // A point's mark is the direction in which the walk came to it: 1 ahead and 2 back in the layer's own direction, 3 up, 4 down; 5 from
 // a pin. A pin's mark is 1 while its points wait to be walked from, and 2 afterwards.
+use grid::Frame;
+use grid::area;
+use grid::column_count;
+use grid::layer_count;
+use grid::track_count;
+use sweep::EAST_START;
+use sweep::PIN_PLACES;
+use sweep::SOUTH_START;
+use sweep::WEST_START;
+use sweep::is_horizontal;
 ghost use mathlib.Core.Path.{_≡_};
 ghost use mathlib.Core.Logic.{_≢_};
 ghost use mathlib.Core.Bool.{true, false};
 ghost use Prim.Native.Nat.{_+_, _*_, _≤_, _<_};
 ghost use lib.ListN.{length};
+ghost use Rattle.grid.specs.Grid.{gridOf};
 ghost use Rattle.sweep.specs.Marks.{at, val, two, Grown};
-ghost use Rattle.sweep.specs.Edges.{gridOf, horizontal, Edges, Shape, Fits, pinPlaces};
+ghost use Rattle.sweep.specs.Edges.{horizontal, Edges, Shape, Fits, pinPlaces};
 ghost use Rattle.walk.specs.Walk.{On, Tip, Stepped, Claimed, Moved, Met, Walked, Ready, Pinned};
-use sweep::EAST_START;
-use sweep::Frame;
-use sweep::PIN_PLACES;
-use sweep::SOUTH_START;
-use sweep::WEST_START;
 
 // Point q of the buffer, in column i, track j and layer l, all from 0, and the next direction to try there: 1 to 4, 5 for none, so
 // that the walk goes back, 6 at the walk's end.
@@ -55,17 +61,15 @@ fn claim_if(test: bool, x: &[u8], m: &mut [u8], b: usize, v: u8, d: u8) -> bool
 
 // The next point in the layer's own direction, or c where the grid ends; d is to be tried there.
 fn ahead(c: Cell, f: Frame, d: u8) -> Cell
-    requires { ⌜ Shape f × On (gridOf f) c ⌝ }
+    requires { ⌜ Shape (gridOf f) × On (gridOf f) c ⌝ }
     ensures { λ r. ⌜ Stepped (gridOf f) c r ⌝ }
 {
-    let n = f.n;
-    let w = f.w;
-    let first = f.first;
     let q = c.q;
     let i = c.i;
     let j = c.j;
     let l = c.l;
-    if sweep::is_horizontal(l, first) {
+    let n = column_count(f.n);
+    if is_horizontal(l, f.first) {
         if i + 1 < n {
             return Cell {
                 q: q + 1,
@@ -77,7 +81,7 @@ fn ahead(c: Cell, f: Frame, d: u8) -> Cell
         }
         return Cell { q, i, j, l, d };
     }
-    if j + 1 < w {
+    if j + 1 < track_count(f.w) {
         return Cell {
             q: q + n,
             i,
@@ -91,16 +95,14 @@ fn ahead(c: Cell, f: Frame, d: u8) -> Cell
 
 // The point before c in the layer's own direction, or c where the grid ends.
 fn behind(c: Cell, f: Frame, d: u8) -> Cell
-    requires { ⌜ Shape f × On (gridOf f) c ⌝ }
+    requires { ⌜ On (gridOf f) c ⌝ }
     ensures { λ r. ⌜ Stepped (gridOf f) c r ⌝ }
 {
-    let n = f.n;
-    let first = f.first;
     let q = c.q;
     let i = c.i;
     let j = c.j;
     let l = c.l;
-    if sweep::is_horizontal(l, first) {
+    if is_horizontal(l, f.first) {
         if 0 < i {
             return Cell {
                 q: q - 1,
@@ -114,7 +116,7 @@ fn behind(c: Cell, f: Frame, d: u8) -> Cell
     }
     if 0 < j {
         return Cell {
-            q: q - n,
+            q: q - column_count(f.n),
             i,
             j: j - 1,
             l,
@@ -126,18 +128,16 @@ fn behind(c: Cell, f: Frame, d: u8) -> Cell
 
 // The point on the next layer, or c where the grid ends.
 fn above(c: Cell, f: Frame, d: u8) -> Cell
-    requires { ⌜ Shape f × On (gridOf f) c ⌝ }
+    requires { ⌜ Shape (gridOf f) × On (gridOf f) c ⌝ }
     ensures { λ r. ⌜ Stepped (gridOf f) c r ⌝ }
 {
-    let area = f.n * f.w;
-    let k = f.k;
     let q = c.q;
     let i = c.i;
     let j = c.j;
     let l = c.l;
-    if l + 1 < k {
+    if l + 1 < layer_count(f.k) {
         return Cell {
-            q: q + area,
+            q: q + area(f.n, f.w),
             i,
             j,
             l: l + 1,
@@ -149,17 +149,16 @@ fn above(c: Cell, f: Frame, d: u8) -> Cell
 
 // The point on the layer before, or c where the grid ends.
 fn below(c: Cell, f: Frame, d: u8) -> Cell
-    requires { ⌜ Shape f × On (gridOf f) c ⌝ }
+    requires { ⌜ Shape (gridOf f) × On (gridOf f) c ⌝ }
     ensures { λ r. ⌜ Stepped (gridOf f) c r ⌝ }
 {
-    let area = f.n * f.w;
     let q = c.q;
     let i = c.i;
     let j = c.j;
     let l = c.l;
     if 0 < l {
         return Cell {
-            q: q - area,
+            q: q - area(f.n, f.w),
             i,
             j,
             l: l - 1,
@@ -171,7 +170,7 @@ fn below(c: Cell, f: Frame, d: u8) -> Cell
 
 // Back to where the walk came from, with the next direction to try there; the end where it began.
 fn retreat(c: Cell, mark: u8, f: Frame) -> Cell
-    requires { ⌜ Shape f × On (gridOf f) c ⌝ }
+    requires { ⌜ Shape (gridOf f) × On (gridOf f) c ⌝ }
     ensures { λ r. ⌜ Stepped (gridOf f) c r ⌝ }
 {
     if mark == 1 {
@@ -195,108 +194,117 @@ fn retreat(c: Cell, mark: u8, f: Frame) -> Cell
     }
 }
 
-// On to the point below where it can be marked, or else back. The point that the walk came from is marked: it is not tried, to save time.
-fn try_below(x: &[u8], m: &mut [u8], c: Cell, v: u8, f: Frame) -> Cell
-    requires { ⌜ Ready f (now x) (now m) c v ⌝ }
+// On to the point below where it can be marked, or else back. The point that the walk came from, by c's mark, is not tried, to save time.
+// A function of the direction in place of the four that follow made Check half as slow again.
+fn try_below(x: &[u8], m: &mut [u8], c: Cell, mark: u8, v: u8, f: Frame) -> Cell
+    requires { ⌜ Ready (gridOf f) (now x) (now m) c v ⌝ }
     ensures { λ r. ⌜ Moved (gridOf f) (now (x .entry)) (now (m .entry)) (now (m .exit)) r ⌝ }
 {
-    let q = c.q;
     let to = below(c, f, 1);
     let b = to.q;
-    if claim_if(m[q] != 3, x, m, b, v, 4) {
+    if claim_if(mark != 3, x, m, b, v, 4) {
         return to;
     }
-    retreat(c, m[q], f)
+    retreat(c, mark, f)
 }
 
 // The same with the point above tried first.
-fn try_above(x: &[u8], m: &mut [u8], c: Cell, v: u8, f: Frame) -> Cell
-    requires { ⌜ Ready f (now x) (now m) c v ⌝ }
+fn try_above(x: &[u8], m: &mut [u8], c: Cell, mark: u8, v: u8, f: Frame) -> Cell
+    requires { ⌜ Ready (gridOf f) (now x) (now m) c v ⌝ }
     ensures { λ r. ⌜ Moved (gridOf f) (now (x .entry)) (now (m .entry)) (now (m .exit)) r ⌝ }
 {
-    let q = c.q;
     let to = above(c, f, 1);
     let b = to.q;
-    if claim_if(m[q] != 4, x, m, b, v, 3) {
+    if claim_if(mark != 4, x, m, b, v, 3) {
         return to;
     }
-    try_below(x, m, c, v, f)
+    try_below(x, m, c, mark, v, f)
 }
 
-fn try_behind(x: &[u8], m: &mut [u8], c: Cell, v: u8, f: Frame) -> Cell
-    requires { ⌜ Ready f (now x) (now m) c v ⌝ }
+fn try_behind(x: &[u8], m: &mut [u8], c: Cell, mark: u8, v: u8, f: Frame) -> Cell
+    requires { ⌜ Ready (gridOf f) (now x) (now m) c v ⌝ }
     ensures { λ r. ⌜ Moved (gridOf f) (now (x .entry)) (now (m .entry)) (now (m .exit)) r ⌝ }
 {
-    let q = c.q;
     let to = behind(c, f, 1);
     let b = to.q;
-    if claim_if(m[q] != 1, x, m, b, v, 2) {
+    if claim_if(mark != 1, x, m, b, v, 2) {
         return to;
     }
-    try_above(x, m, c, v, f)
+    try_above(x, m, c, mark, v, f)
 }
 
-fn try_ahead(x: &[u8], m: &mut [u8], c: Cell, v: u8, f: Frame) -> Cell
-    requires { ⌜ Ready f (now x) (now m) c v ⌝ }
+fn try_ahead(x: &[u8], m: &mut [u8], c: Cell, mark: u8, v: u8, f: Frame) -> Cell
+    requires { ⌜ Ready (gridOf f) (now x) (now m) c v ⌝ }
     ensures { λ r. ⌜ Moved (gridOf f) (now (x .entry)) (now (m .entry)) (now (m .exit)) r ⌝ }
 {
-    let q = c.q;
     let to = ahead(c, f, 1);
     let b = to.q;
-    if claim_if(m[q] != 2, x, m, b, v, 1) {
+    if claim_if(mark != 2, x, m, b, v, 1) {
         return to;
     }
-    try_behind(x, m, c, v, f)
+    try_behind(x, m, c, mark, v, f)
 }
 
-// The pins that cell c touches are marked, to be walked from, where they hold v.
+// On in the first of the directions left to try, or else back.
+fn onward(x: &[u8], m: &mut [u8], c: Cell, mark: u8, v: u8, f: Frame) -> Cell
+    requires { ⌜ Ready (gridOf f) (now x) (now m) c v ⌝ }
+    ensures { λ r. ⌜ Moved (gridOf f) (now (x .entry)) (now (m .entry)) (now (m .exit)) r ⌝ }
+{
+    let d = c.d;
+    if d == 1 {
+        return try_ahead(x, m, c, mark, v, f);
+    }
+    if d == 2 {
+        return try_behind(x, m, c, mark, v, f);
+    }
+    if d == 3 {
+        return try_above(x, m, c, mark, v, f);
+    }
+    if d == 4 {
+        return try_below(x, m, c, mark, v, f);
+    }
+    retreat(c, mark, f)
+}
+
+// The pins that cell c touches are marked, to be walked from, where they hold v; when the walk first comes to c.
 fn meet(p: &[u8], s: &mut [u8], c: Cell, v: u8, f: Frame)
-    requires { ⌜ Shape f × On (gridOf f) c × (length (now p) ≡ pinPlaces) × (length (now s) ≡ pinPlaces) ⌝ }
+    requires { ⌜ Shape (gridOf f) × On (gridOf f) c × (length (now p) ≡ pinPlaces) × (length (now s) ≡ pinPlaces) ⌝ }
     ensures { λ r. ⌜ Met (gridOf f) (now (p .entry)) (now (s .entry)) (now (s .exit)) (c .q) v ⌝ }
 {
-    let n = f.n;
-    let w = f.w;
-    let first = f.first;
+    if c.d != 1 {
+        return;
+    }
     let i = c.i;
     let j = c.j;
     let l = c.l;
-    if sweep::is_horizontal(l, first) {
+    if is_horizontal(l, f.first) {
         claim_if(i == 0, p, s, WEST_START + j, v, 1);
-        claim_if(i + 1 == n, p, s, EAST_START + j, v, 1);
+        claim_if(i + 1 == column_count(f.n), p, s, EAST_START + j, v, 1);
         return;
     }
     claim_if(j == 0, p, s, SOUTH_START + i, v, 1);
-    claim_if(j + 1 == w, p, s, i, v, 1);
+    claim_if(j + 1 == track_count(f.w), p, s, i, v, 1);
 }
 
-// One step of the walk: on, where a direction is left to try, or else back.
+// One step of the walk, on or back.
 fn advance(p: &[u8], s: &mut [u8], x: &[u8], m: &mut [u8], c: Cell, f: Frame) -> Cell
-    requires { ⌜ Fits f (length (now p)) (length (now s)) (length (now x)) (length (now m)) × On (gridOf f) c × (at (now m) (c .q) ≢ 0) ⌝ }
-    ensures { λ r. ⌜ Walked (gridOf f) (now (p .entry)) (now (s .entry)) (now (s .exit)) (now (x .entry)) (now (m .entry)) (now (m .exit)) r ⌝ }
+    requires { ⌜ Fits (gridOf f) (length (now p)) (length (now s)) (length (now x)) (length (now m)) × On (gridOf f) c ×
+        (at (now m) (c .q) ≢ 0) ⌝ }
+    ensures { λ r. ⌜ Walked (gridOf f) (now (p .entry)) (now (s .entry)) (now (s .exit)) (now (x .entry)) (now (m .entry))
+        (now (m .exit)) r ⌝ }
 {
     let q = c.q;
-    let d = c.d;
     let v = x[q];
-    if d == 1 {
-        meet(p, s, c, v, f);
-        return try_ahead(x, m, c, v, f);
-    }
-    if d == 2 {
-        return try_behind(x, m, c, v, f);
-    }
-    if d == 3 {
-        return try_above(x, m, c, v, f);
-    }
-    if d == 4 {
-        return try_below(x, m, c, v, f);
-    }
-    retreat(c, m[q], f)
+    let mark = m[q];
+    meet(p, s, c, v, f);
+    onward(x, m, c, mark, v, f)
 }
 
 // Steps from cell c until the walk is back there, at most so many.
 fn walk(p: &[u8], s: &mut [u8], x: &[u8], m: &mut [u8], c: Cell, f: Frame, steps: usize)
-    requires { ⌜ Fits f (length (now p)) (length (now s)) (length (now x)) (length (now m)) × On (gridOf f) c ⌝ }
-    ensures { λ r. ⌜ Grown (val (now (p .entry)) (now (x .entry))) (two (now (s .entry)) (now (m .entry))) (two (now (s .exit)) (now (m .exit))) (Edges (gridOf f)) ⌝ }
+    requires { ⌜ Fits (gridOf f) (length (now p)) (length (now s)) (length (now x)) (length (now m)) × On (gridOf f) c ⌝ }
+    ensures { λ r. ⌜ Grown (val (now (p .entry)) (now (x .entry))) (two (now (s .entry)) (now (m .entry)))
+        (two (now (s .exit)) (now (m .exit))) (Edges (gridOf f)) ⌝ }
 {
     let mut here = c;
     let mut left = steps;
@@ -321,13 +329,13 @@ struct Touch {
 }
 
 fn touch_of(a: usize, f: Frame) -> Touch
-    requires { ⌜ Shape f × (a < pinPlaces) ⌝ }
+    requires { ⌜ Shape (gridOf f) × (a < pinPlaces) ⌝ }
     ensures { λ r. ⌜ Tip (gridOf f) a (r .i) (r .j) (r .flat) ⌝ }
 {
     if a < SOUTH_START {
         return Touch {
             i: a,
-            j: f.w - 1,
+            j: track_count(f.w) - 1,
             flat: false,
         };
     }
@@ -346,7 +354,7 @@ fn touch_of(a: usize, f: Frame) -> Touch
         };
     }
     Touch {
-        i: f.n - 1,
+        i: column_count(f.n) - 1,
         j: a - EAST_START,
         flat: true,
     }
@@ -356,7 +364,7 @@ fn touch_of(a: usize, f: Frame) -> Touch
 fn is_of(l: usize, first: bool, flat: bool) -> bool
     ensures { λ r. ⌜ (r ≡ true → horizontal first l ≡ flat) × (horizontal first l ≡ flat → r ≡ true) ⌝ }
 {
-    if sweep::is_horizontal(l, first) {
+    if is_horizontal(l, first) {
         return flat;
     }
     if flat {
@@ -367,8 +375,10 @@ fn is_of(l: usize, first: bool, flat: bool) -> bool
 
 // A walk from cell c, which the marked pin a touches on layers of one direction, where c has none of a walk's marks yet.
 fn begin(p: &[u8], s: &mut [u8], x: &[u8], m: &mut [u8], a: usize, c: Cell, flat: bool, f: Frame)
-    requires { ⌜ Fits f (length (now p)) (length (now s)) (length (now x)) (length (now m)) × Pinned (gridOf f) (now s) a c flat ⌝ }
-    ensures { λ r. ⌜ Grown (val (now (p .entry)) (now (x .entry))) (two (now (s .entry)) (now (m .entry))) (two (now (s .exit)) (now (m .exit))) (Edges (gridOf f)) ⌝ }
+    requires { ⌜ Fits (gridOf f) (length (now p)) (length (now s)) (length (now x)) (length (now m)) × Pinned (gridOf f)
+        (now s) a c flat ⌝ }
+    ensures { λ r. ⌜ Grown (val (now (p .entry)) (now (x .entry))) (two (now (s .entry)) (now (m .entry)))
+        (two (now (s .exit)) (now (m .exit))) (Edges (gridOf f)) ⌝ }
 {
     let l = c.l;
     let q = c.q;
@@ -382,34 +392,37 @@ fn begin(p: &[u8], s: &mut [u8], x: &[u8], m: &mut [u8], a: usize, c: Cell, flat
     }
 }
 
-// Walks from all points that the marked pin a touches, in column i and track j.
+// Walks from all points that the marked pin a touches: c is the one on the first layer.
 fn walk_from(
     p: &[u8],
     s: &mut [u8],
     x: &[u8],
     m: &mut [u8],
     a: usize,
-    i: usize,
-    j: usize,
+    c: Cell,
     flat: bool,
     f: Frame,
 )
-    requires { ⌜ Fits f (length (now p)) (length (now s)) (length (now x)) (length (now m)) × (a < pinPlaces) × (at (now s) a ≢ 0) × (i < f .n) × (j < f .w) × Tip (gridOf f) a i j flat ⌝ }
-    ensures { λ r. ⌜ Grown (val (now (p .entry)) (now (x .entry))) (two (now (s .entry)) (now (m .entry))) (two (now (s .exit)) (now (m .exit))) (Edges (gridOf f)) ⌝ }
+    requires { ⌜ Fits (gridOf f) (length (now p)) (length (now s)) (length (now x)) (length (now m)) × Pinned (gridOf f)
+        (now s) a c flat × (c .l ≡ 0) ⌝ }
+    ensures { λ r. ⌜ Grown (val (now (p .entry)) (now (x .entry))) (two (now (s .entry)) (now (m .entry)))
+        (two (now (s .exit)) (now (m .exit))) (Edges (gridOf f)) ⌝ }
 {
-    let k = f.k;
-    let area = f.n * f.w;
-    let mut q = j * f.n + i;
-    for l in 0..k {
+    let i = c.i;
+    let j = c.j;
+    let each = area(f.n, f.w);
+    let mut q = c.q;
+    for l in 0..layer_count(f.k) {
         begin(p, s, x, m, a, Cell { q, i, j, l, d: 1 }, flat, f);
-        q += area;
+        q += each;
     }
 }
 
 // Where pin a waits: walks from its points. 1 for a pin that waited, else 0.
 fn take_up(p: &[u8], s: &mut [u8], x: &[u8], m: &mut [u8], a: usize, f: Frame) -> usize
-    requires { ⌜ Fits f (length (now p)) (length (now s)) (length (now x)) (length (now m)) × (a < pinPlaces) ⌝ }
-    ensures { λ r. ⌜ Grown (val (now (p .entry)) (now (x .entry))) (two (now (s .entry)) (now (m .entry))) (two (now (s .exit)) (now (m .exit))) (Edges (gridOf f)) × (r ≤ 1) ⌝ }
+    requires { ⌜ Fits (gridOf f) (length (now p)) (length (now s)) (length (now x)) (length (now m)) × (a < pinPlaces) ⌝ }
+    ensures { λ r. ⌜ Grown (val (now (p .entry)) (now (x .entry))) (two (now (s .entry)) (now (m .entry)))
+        (two (now (s .exit)) (now (m .exit))) (Edges (gridOf f)) × (r ≤ 1) ⌝ }
 {
     if s[a] != 1 {
         return 0;
@@ -418,21 +431,37 @@ fn take_up(p: &[u8], s: &mut [u8], x: &[u8], m: &mut [u8], a: usize, f: Frame) -
     let t = touch_of(a, f);
     let i = t.i;
     let j = t.j;
-    let flat = t.flat;
-    if f.n <= i {
+    let n = column_count(f.n);
+    if n <= i {
         return 1;
     }
-    if f.w <= j {
+    if track_count(f.w) <= j {
         return 1;
     }
-    walk_from(p, s, x, m, a, i, j, flat, f);
+    walk_from(
+        p,
+        s,
+        x,
+        m,
+        a,
+        Cell {
+            q: j * n + i,
+            i,
+            j,
+            l: 0,
+            d: 1,
+        },
+        t.flat,
+        f,
+    );
     1
 }
 
 // Takes up each waiting pin once. How many waited.
 fn take_up_all(p: &[u8], s: &mut [u8], x: &[u8], m: &mut [u8], f: Frame) -> usize
-    requires { ⌜ Fits f (length (now p)) (length (now s)) (length (now x)) (length (now m)) ⌝ }
-    ensures { λ r. ⌜ Grown (val (now (p .entry)) (now (x .entry))) (two (now (s .entry)) (now (m .entry))) (two (now (s .exit)) (now (m .exit))) (Edges (gridOf f)) ⌝ }
+    requires { ⌜ Fits (gridOf f) (length (now p)) (length (now s)) (length (now x)) (length (now m)) ⌝ }
+    ensures { λ r. ⌜ Grown (val (now (p .entry)) (now (x .entry))) (two (now (s .entry)) (now (m .entry)))
+        (two (now (s .exit)) (now (m .exit))) (Edges (gridOf f)) ⌝ }
 {
     let mut waited: usize = 0;
     for a in 0..PIN_PLACES {
@@ -441,10 +470,12 @@ fn take_up_all(p: &[u8], s: &mut [u8], x: &[u8], m: &mut [u8], f: Frame) -> usiz
     waited
 }
 
-// Walks from all marked pins, and from those that the walks reach. A pin waits once, so as many rounds as places are enough. (For our own crates.)
+// Walks from all marked pins, and from those that the walks reach. A pin waits once, so as many rounds as places are enough. (For our own
+// crates.)
 pub fn spread(p: &[u8], s: &mut [u8], x: &[u8], m: &mut [u8], f: Frame)
-    requires { ⌜ Fits f (length (now p)) (length (now s)) (length (now x)) (length (now m)) ⌝ }
-    ensures { λ r. ⌜ Grown (val (now (p .entry)) (now (x .entry))) (two (now (s .entry)) (now (m .entry))) (two (now (s .exit)) (now (m .exit))) (Edges (gridOf f)) ⌝ }
+    requires { ⌜ Fits (gridOf f) (length (now p)) (length (now s)) (length (now x)) (length (now m)) ⌝ }
+    ensures { λ r. ⌜ Grown (val (now (p .entry)) (now (x .entry))) (two (now (s .entry)) (now (m .entry)))
+        (two (now (s .exit)) (now (m .exit))) (Edges (gridOf f)) ⌝ }
 {
     let mut rounds: usize = PIN_PLACES;
     while 0 < rounds {

@@ -20,44 +20,31 @@ returns c =
 
 slice-relend-prefix-judge-list : tie.Need-slice-relend-prefix-judge-list
 slice-relend-prefix-judge-list c =
-    let args = c .before .before .before .before .before .before .before .before .before .args in
-    let parse = c .before .before .before .before .before .parse in
-    let early = c .before .before .before .before .early-refusal in
-    room (now (args .ticket)) (parse .result) (parse .ensures) (args .w .0) (args .k .0) (args .first) (now (args .wiring)) (now (args .scratch)) (early .result) (early .ensures) (c .before .before .if1 .left)
+    let c5 = c .before .before .before .before .before in
+    room _ _ _ _ _ (c5 .early-refusal .ensures) (c .before .before .before .if1 .left)
 
 slice-aggregate-judge-list : tie.Need-slice-aggregate-judge-list
 slice-aggregate-judge-list c = sym (length-take-le _ _ (slice-relend-prefix-judge-list (c .before)))
 
 judge-list-requires : tie.Need-judge-list-requires
 judge-list-requires c κs =
-    let args = c .before .before .before .before .before .before .before .before .before .before .args in
-    let parse = c .before .before .before .before .before .before .parse in
-    let early = c .before .before .before .before .before .early-refusal in
-    fits (now (args .ticket)) (parse .result) (parse .ensures) (args .w .0) (args .k .0) (args .first) (now (args .wiring)) (now (args .scratch)) (early .result) (early .ensures)
-    (c .before .before .before .if1 .left) _ (length-take-le _ _ (slice-relend-prefix-judge-list (c .before)))
+    let c6 = c .before .before .before .before .before .before in
+    let args = c6 .before .before .before .before .before .args in
+    fits _ _ (c6 .before .parse .ensures) _ _ _ (now (args .wiring)) (now (args .scratch)) _ (c6 .early-refusal .ensures)
+    (c .before .before .before .before .if1 .left)
+    (length-take-le _ _ (slice-relend-prefix-judge-list (c .before)))
 
 same-length : tie.Need-same-length
 same-length c = search needs
 
 returns-2 : tie.Need-returns-2
 returns-2 c =
-    let args = c .before .before .before .before .before .before .before .before .before .before .before .before .before .args in
-    let parse = c .before .before .before .before .before .before .before .before .before .parse in
-    let early = c .before .before .before .before .before .before .before .before .early-refusal in
-    let pin-list = c .before .before .before .before .pin-list in
-    accepted (now (args .ticket)) (parse .result) (parse .ensures) (args .w .0) (args .k .0) (args .first) (now (args .wiring)) (now (args .scratch)) (early .result) (early .ensures)
-    (c .before .before .before .before .before .before .if1 .left) _ (pin-list .result) _ (same-length c) (pin-list .ensures) (c .before .before .judge-list .ensures)
+    let c5 = c .before .before .before .before .before in
+    let c9 = c5 .before .before .before .before in
+    accepted _ _ (c9 .before .parse .ensures) _ _ _ _ _ _ (c9 .early-refusal .ensures) (c5 .before .before .if1 .left)
+    (same-length c) (c5 .pin-list .ensures) (c .before .before .judge-list .ensures)
 
 pub check-spec : {M : Type 1} → statement M
 check-spec =
-    tie.close
-    (tie.spec
-    (λ c κs. search needs)
-    early-refusal-requires
-    returns
-    (λ c κs. search needs)
-    slice-relend-prefix-judge-list
-    slice-aggregate-judge-list
-    judge-list-requires
-    same-length
-    returns-2)
+    tie.close (tie.spec (λ c κs. search needs) early-refusal-requires returns (λ c κs. search needs) slice-relend-prefix-judge-list
+    slice-aggregate-judge-list judge-list-requires same-length returns-2)

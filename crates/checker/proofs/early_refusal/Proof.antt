@@ -23,7 +23,14 @@ points-requires c κs =
 returns-2 : tie.Need-returns-2
 unfolding checkRefusal
 returns-2 c =
-    simp (eq-eqb _ _ (c .before .before .before .before .before .before .if1 .left), sym (c .before .before .before .before .has-counts .ensures) ∙ c .before .before .before .if2 .taken, ← c .before .before .points .ensures, ne-eqb _ _ (c .before .if3 .taken), c .refuse .ensures)
+    simp (
+      eq-eqb _ _ (c .before .before .before .before .before .before .if1 .left),
+      sym (c .before .before .before .before .has-counts .ensures)
+          ∙ c .before .before .before .if2 .taken,
+      ← c .before .before .points .ensures,
+      ne-eqb _ _ (c .before .if3 .taken),
+      c .refuse .ensures,
+    )
 
 returns-3 : tie.Need-returns-3
 unfolding checkRefusal
@@ -51,20 +58,13 @@ returns-4 c =
 
 returns-5 : tie.Need-returns-5
 unfolding checkRefusal
-returns-5 c = simp (eq-eqb _ _ (c .before .before .before .before .if1 .left), sym (c .before .before .has-counts .ensures) ∙ c .before .if2 .left, c .refuse4 .ensures)
+returns-5 c = simp (
+  eq-eqb _ _ (c .before .before .before .before .if1 .left),
+  sym (c .before .before .has-counts .ensures) ∙ c .before .if2 .left,
+  c .refuse4 .ensures,
+)
 
 pub early-refusal-spec : {M : Type 1} → statement M
 early-refusal-spec =
-    tie.close
-    (tie.spec
-    returns
-    (λ c κs. search needs)
-    points-requires
-    (λ c κs. search needs)
-    returns-2
-    (λ c κs. search needs)
-    returns-3
-    (λ c κs. search needs)
-    returns-4
-    (λ c κs. search needs)
-    returns-5)
+    tie.close (tie.spec returns (λ c κs. search needs) points-requires (λ c κs. search needs) returns-2 (λ c κs. search needs) returns-3
+    (λ c κs. search needs) returns-4 (λ c κs. search needs) returns-5)

@@ -1,8 +1,8 @@
 -- `checker::lowest` meets its contract: the smallest of the entries passed.
 use Prim.Native.Nat.{_≤_, _-_}
 use mathlib.Core.Path.{_≡_}
-use borrow.Author.Needs.{needs}
 use native.Mathlib.Omega.{arith}
+use borrow.Author.Needs.{needs}
 use lib.ListN.{length}
 use denote.Ref.{now}
 use Rattle.checker.specs.Marking.{Lowest}
@@ -42,8 +42,12 @@ loop-again : tie.Need-loop-again Inv-loop μ-loop
 loop-again c =
     let loop-test = c .before .before .before .before .loop-test in
     let args = c .before .before .before .before .before .before .before .before .args in
-    let loop = c .before .before .before .before .before .loop in
-    (omega (arith, loop-test .taken), search needs, lowest-more (now (args .x)) (now (args .m)) _ _ _ _ (loop .inv .2) (c .before .unmarked .ensures) (c .smaller .ensures))
+    let loop = c .before .before .before .before .before .loop in (
+      omega (arith, loop-test .taken),
+      search needs,
+      lowest-more (now (args .x)) (now (args .m)) _ _ _ _ (loop .inv .2) (c .before .unmarked .ensures)
+          (c .smaller-byte .ensures),
+    )
 
 returns : tie.Need-returns Inv-loop μ-loop
 returns c =
@@ -53,16 +57,5 @@ returns c =
 
 pub lowest-spec : {M : Type 1} → statement M
 lowest-spec =
-    tie.close
-    (tie.spec
-    Inv-loop
-    μ-loop
-    loop-holds
-    shared-slice-read-unmarked
-    shared-slice-read-unmarked-2
-    (λ c κs. search needs)
-    (λ c κs. search needs)
-    add-q
-    loop-less
-    loop-again
-    returns)
+    tie.close (tie.spec Inv-loop μ-loop loop-holds shared-slice-read-unmarked shared-slice-read-unmarked-2 (λ c κs. search needs)
+    (λ c κs. search needs) add-q loop-less loop-again returns)

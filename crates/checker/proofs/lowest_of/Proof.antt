@@ -20,16 +20,18 @@ returns c =
     let args = c .before .before .before .before .before .before .before .before .args in
     let lowest = c .before .before .before .lowest in
     let lowest2 = c .before .before .lowest2 in
-    let smaller = c .before .smaller in
-    lowest-none-of (now (args .p)) (now (args .s)) (now (args .x)) (now (args .m)) (lowest .result) (lowest2 .result) (smaller .result) (lowest .ensures) (lowest2 .ensures) (smaller .ensures) (c .if1 .taken)
+    let smaller = c .before .smaller-byte in
+    lowest-none-of (now (args .p)) (now (args .s)) (now (args .x)) (now (args .m)) (lowest .result) (lowest2 .result) (smaller .result) (lowest .ensures)
+    (lowest2 .ensures) (smaller .ensures) (c .if1 .taken)
 
 returns-2 : tie.Need-returns-2
 returns-2 c =
     let args = c .before .before .before .before .before .before .before .before .args in
     let lowest = c .before .before .before .lowest in
     let lowest2 = c .before .before .lowest2 in
-    let smaller = c .before .smaller in
-    lowest-of (now (args .p)) (now (args .s)) (now (args .x)) (now (args .m)) (lowest .result) (lowest2 .result) (smaller .result) (lowest .ensures) (lowest2 .ensures) (smaller .ensures) (c .if1 .left)
+    let smaller = c .before .smaller-byte in
+    lowest-of (now (args .p)) (now (args .s)) (now (args .x)) (now (args .m)) (lowest .result) (lowest2 .result) (smaller .result) (lowest .ensures)
+    (lowest2 .ensures) (smaller .ensures) (c .if1 .left)
 
 pub lowest-of-spec : {M : Type 1} → statement M
 lowest-of-spec =

@@ -1,8 +1,8 @@
 -- `checker::open_nets` meets its contract: of the pins passed, the table has the nets and the marks the first pins.
 use Prim.Native.Nat.{_≤_, _-_}
 use mathlib.Core.Path.{_≡_, refl}
-use borrow.Author.Needs.{needs}
 use native.Mathlib.Omega.{arith}
+use borrow.Author.Needs.{needs}
 use lib.ListN.{length, length-set, length-replicate}
 use denote.Ref.{now}
 use Rattle.checker.specs.Marking.{Opened}
@@ -57,8 +57,16 @@ loop-again c =
     let loop = c .before .before .before .before .loop in
     let wide = c .before .wide in
     let unless-known = c .unless-known in
-    let shared-slice-known2 = c .before .before .shared-slice-known2 in
-    (omega (arith, loop-test .taken), loop .inv .1, simp length-set (loop .inv .2), simp length-set (loop .inv .3), opened-at (now (start .args .p)) (loop .s) (loop .known) (loop .a) (wide .result) (unless-known .result) (wide .ensures) (loop .inv .4) (omega (arith, start .pre, loop .inv .1, loop .inv .2, loop-test .taken)) (omega (arith, loop .inv .3, shared-slice-known2 .given (loop .a))) (omega (arith, shared-slice-known2 .given (loop .a))) (unless-known .ensures))
+    let shared-slice-known2 = c .before .before .shared-slice-known2 in (
+      omega (arith, loop-test .taken),
+      loop .inv .1,
+      simp length-set (loop .inv .2),
+      simp length-set (loop .inv .3),
+      opened-at (now (start .args .p))
+          (loop .s) (loop .known) (loop .a) (wide .result) (unless-known .result) (wide .ensures) (loop .inv .4)
+          (omega (arith, start .pre, loop .inv .1, loop .inv .2, loop-test .taken)) (omega (arith, loop .inv .3, shared-slice-known2 .given (loop .a)))
+          (omega (arith, shared-slice-known2 .given (loop .a))) (unless-known .ensures),
+    )
 
 same-length : tie.Need-same-length Inv-loop μ-loop
 same-length c = c .before .loop .inv .2
@@ -71,20 +79,5 @@ returns c =
 
 pub open-nets-spec : {M : Type 1} → statement M
 open-nets-spec =
-    tie.close
-    (tie.spec
-    Inv-loop
-    μ-loop
-    array-write-known
-    loop-holds
-    shared-slice-read-wide
-    (λ c κs. search needs)
-    array-read-unless-known
-    (λ c κs. search needs)
-    slice-write-s
-    array-write-known-2
-    add-a
-    loop-less
-    loop-again
-    same-length
-    returns)
+    tie.close (tie.spec Inv-loop μ-loop array-write-known loop-holds shared-slice-read-wide (λ c κs. search needs)
+    array-read-unless-known (λ c κs. search needs) slice-write-s array-write-known-2 add-a loop-less loop-again same-length returns)

@@ -1,7 +1,7 @@
 -- `checker::put` meets its contract: the places passed are the side's, the others as they were.
 use Prim.Native.Nat.{_≤_, _-_}
-use borrow.Author.Needs.{needs}
 use native.Mathlib.Omega.{arith}
+use borrow.Author.Needs.{needs}
 use Rattle.checker.proofs.Lists.{Putting, putting-start, putting-more, putting-end}
 use Rattle.checker.proofs.put.Statement.{statement}
 use Rattle.checker.proofs.put.Tie as tie
@@ -33,8 +33,11 @@ loop-less c = omega (arith, c .loop-test .taken)
 loop-again : tie.Need-loop-again Inv-loop μ-loop
 loop-again c =
     let start = c .before .before in
-    let loop-test = c .loop-test in
-    (omega (arith, loop-test .taken), putting-more _ _ _ _ _ (omega (arith, start .pre, loop-test .taken, start .good .0 .1 .0 .1)) (c .before .loop .inv .1))
+    let loop-test = c .loop-test in (
+      omega (arith, loop-test .taken),
+      putting-more _ _ _ _ _ (omega (arith, start .pre, loop-test .taken, start .good .0 .1 .0 .1))
+          (c .before .loop .inv .1),
+    )
 
 returns : tie.Need-returns Inv-loop μ-loop
 returns c =
@@ -43,15 +46,4 @@ returns c =
 
 pub put-spec : {M : Type 1} → statement M
 put-spec =
-    tie.close
-    (tie.spec
-    Inv-loop
-    μ-loop
-    loop-holds
-    array-read-r
-    add-r
-    array-write-r
-    add-i
-    loop-less
-    loop-again
-    returns)
+    tie.close (tie.spec Inv-loop μ-loop loop-holds array-read-r add-r array-write-r add-i loop-less loop-again returns)

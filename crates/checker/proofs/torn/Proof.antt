@@ -1,6 +1,6 @@
 -- `checker::torn` meets its contract: the marks begin with the first pins, grow by walks and settle by sweeps.
-use borrow.Author.Needs.{needs}
 use native.Mathlib.Omega.{arith}
+use borrow.Author.Needs.{needs}
 use denote.Ref.{now}
 use Rattle.sweep.proofs.Settling.{settled-after}
 use Rattle.checker.proofs.torn.Statement.{statement}
@@ -52,18 +52,17 @@ returns c =
     record {
       s = settle .last .1 .0;
       m = settle .last .1 .1 .1 .0;
-      marking = record { s₀ = now (start .args .s); m₀ = clear .last .0; firsts = start .pre .1; clear = clear .ensures; settled = settled-after (spread .ensures) (settle .ensures) };
+      marking = record {
+        s₀ = now (start .args .s);
+        m₀ = clear .last .0;
+        firsts = start .pre .1;
+        clear = clear .ensures;
+        settled = settled-after
+            (spread .ensures) (settle .ensures);
+      };
       lowest = c .lowest-of .ensures;
     }
 
 pub torn-spec : {M : Type 1} → statement M
 torn-spec =
-    tie.close
-    (tie.spec
-    (λ c κs. search needs)
-    spread-requires
-    settle-requires
-    lowest-of-requires
-    same-length
-    same-length-2
-    returns)
+    tie.close (tie.spec (λ c κs. search needs) spread-requires settle-requires lowest-of-requires same-length same-length-2 returns)

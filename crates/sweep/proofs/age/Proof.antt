@@ -1,8 +1,8 @@
 -- `sweep::age` meets its contract: the entries passed have aged, the others are as they were.
 use Prim.Native.Nat.{_≤_, _-_}
 use mathlib.Core.Path.{_≡_}
-use borrow.Author.Needs.{needs}
 use native.Mathlib.Omega.{arith}
+use borrow.Author.Needs.{needs}
 use lib.ListN.{length}
 use Rattle.sweep.proofs.Ageing.{Ageing, ageing-start, ageing-more, ageing-end}
 use Rattle.sweep.proofs.age.Statement.{statement}
@@ -34,16 +34,5 @@ returns c = ageing-end _ _ _ (omega arith) (c .before .loop .inv .2)
 
 pub age-spec : {M : Type 1} → statement M
 age-spec =
-    tie.close
-    (tie.spec
-    Inv-loop
-    μ-loop
-    loop-holds
-    slice-read-aged
-    (λ c κs. search needs)
-    slice-write-m
-    (λ c. search needs)
-    (λ c. search needs)
-    loop-again
-    same-length
-    returns)
+    tie.close (tie.spec Inv-loop μ-loop loop-holds slice-read-aged (λ c κs. search needs) slice-write-m (λ c. search needs)
+    (λ c. search needs) loop-again same-length returns)

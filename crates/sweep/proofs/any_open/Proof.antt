@@ -1,8 +1,7 @@
 -- `sweep::any_open` meets its contract: what is found of the edges passed is 0 just where all of them are shut.
 use Prim.Native.Nat.{_≤_, _-_}
-use borrow.Author.Needs.{needs}
 use native.Mathlib.Omega.{arith}
-use denote.Ref.{now}
+use borrow.Author.Needs.{needs}
 use Rattle.sweep.specs.Edges.{AllShut}
 use Rattle.sweep.proofs.Sweeping.{all-none, all-more, all-shut}
 use Rattle.sweep.proofs.any_open.Statement.{statement}
@@ -19,31 +18,14 @@ loop-holds c = (search needs, all-none _ _ _ _)
 
 loop-again : tie.Need-loop-again Inv-loop μ-loop
 loop-again c =
-    let args = c .before .before .before .before .before .before .before .before .before .before .args in
     let loop = c .before .before .before .before .before .before .before .loop in
-    let opened = c .before .«open» in
-    let larger = c .larger in
-    (search needs, all-more (now (args .x)) (now (args .m)) (args .start) (loop .t) (args .gap) (loop .found) (opened .result) (larger .result) (loop .inv .1) (opened .ensures) (larger .ensures))
+    (search needs, all-more _ _ _ _ _ _ _ _ (loop .inv .1) (c .before .«open» .ensures) (c .larger-byte .ensures))
 
 returns : tie.Need-returns Inv-loop μ-loop
 returns c = all-shut _ _ _ _ _ _ _ (omega arith) (c .before .loop .inv .1)
 
 pub any-open-spec : {M : Type 1} → statement M
 any-open-spec =
-    tie.close
-    (tie.spec
-    Inv-loop
-    μ-loop
-    loop-holds
-    (λ c. search needs)
-    (λ c. search needs)
-    (λ c. search needs)
-    (λ c. search needs)
-    (λ c. search needs)
-    (λ c. search needs)
-    (λ c κs. search needs)
-    (λ c κs. search needs)
-    (λ c. search needs)
-    (λ c. search needs)
-    loop-again
-    returns)
+    tie.close (tie.spec Inv-loop μ-loop loop-holds (λ c. search needs) (λ c. search needs) (λ c. search needs) (λ c. search needs)
+    (λ c. search needs) (λ c. search needs) (λ c κs. search needs) (λ c κs. search needs) (λ c. search needs) (λ c. search needs)
+    loop-again returns)

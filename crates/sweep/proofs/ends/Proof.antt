@@ -2,9 +2,9 @@
 use mathlib.Core.Path.{sym}
 use mathlib.Core.Logic.{inl, inr}
 use mathlib.Core.Bool.{true, false}
-use borrow.Author.Needs.{needs}
 use native.Mathlib.Omega.{arith}
 use native.Mathlib.Nat.{mul-comm, mul-one}
+use borrow.Author.Needs.{needs}
 use denote.Ref.{now}
 use Rattle.sweep.specs.Edges.{Ends}
 use Rattle.sweep.proofs.Zeros.{zeros-le}
@@ -36,7 +36,8 @@ returns c =
     let if1 = c .before .before .before .before .before .before .before .before .before .before .before .before .before .before .if1 in
     let side = c .before .before .before .before .before .before .before .before .before .before .before .side in
     let side2 = c .before .before .before .before .side2 in
-    swept-at (Ends (args .q) (args .n) (args .w)) true _ (sym (if1 .taken)) (swept-then _ (λ a b e. inl e) (λ a b e. inr e) (λ a b e. e) (side .ensures) (side2 .ensures))
+    swept-at (Ends (args .q) (args .n) (args .w)) true _ (sym (if1 .taken))
+    (swept-then _ (λ a b e. inl e) (λ a b e. inr e) (λ a b e. e) (side .ensures) (side2 .ensures))
 
 side-requires-3 : tie.Need-side-requires-3
 side-requires-3 c κs =
@@ -76,26 +77,11 @@ returns-2 c =
     let if1 = c .before .before .before .before .before .before .before .before .before .before .before .before .before .before .if1 in
     let side3 = c .before .before .before .before .before .before .before .before .before .before .before .side3 in
     let side4 = c .before .before .before .before .side4 in
-    swept-at (Ends (args .q) (args .n) (args .w)) false _ (sym (if1 .left)) (swept-then _ (λ a b e. inl e) (λ a b e. inr e) (λ a b e. e) (side3 .ensures) (side4 .ensures))
+    swept-at (Ends (args .q) (args .n) (args .w)) false _ (sym (if1 .left))
+    (swept-then _ (λ a b e. inl e) (λ a b e. inr e) (λ a b e. e) (side3 .ensures) (side4 .ensures))
 
 pub ends-spec : {M : Type 1} → statement M
 ends-spec =
-    tie.close
-    (tie.spec
-    side-requires
-    (λ c. search needs)
-    (λ c. search needs)
-    side-requires-2
-    add-result
-    (λ c. search needs)
-    (λ c. search needs)
-    returns
-    side-requires-3
-    mul-side
-    sub-side-2
-    add-side-2
-    side-requires-4
-    add-result-2
-    (λ c. search needs)
-    (λ c. search needs)
-    returns-2)
+    tie.close (tie.spec side-requires (λ c. search needs) (λ c. search needs) side-requires-2 add-result (λ c. search needs)
+    (λ c. search needs) returns side-requires-3 mul-side sub-side-2 add-side-2 side-requires-4 add-result-2 (λ c. search needs)
+    (λ c. search needs) returns-2)

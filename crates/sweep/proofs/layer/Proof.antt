@@ -2,8 +2,8 @@
 use mathlib.Core.Path.{sym}
 use mathlib.Core.Logic.{inl, inr}
 use mathlib.Core.Bool.{true, false}
-use borrow.Author.Needs.{needs}
 use native.Mathlib.Omega.{arith}
+use borrow.Author.Needs.{needs}
 use denote.Ref.{now}
 use Rattle.sweep.specs.Edges.{Along}
 use Rattle.sweep.proofs.Zeros.{zeros-le}
@@ -26,7 +26,8 @@ returns c =
     let run-if = c .before .before .before .before .before .before .before .run-if in
     let args = c .before .before .before .before .before .before .before .before .before .before .before .args in
     let if1 = c .before .before .before .before .if1 in
-    swept-then _ (λ a b e. inl e) (λ a b e. inr e) (λ a b e. e) (run-if .ensures) (swept-at (Along (args .q) (args .n) (args .w)) true _ (sym (if1 .taken)) (c .before .before .rows .ensures))
+    swept-then _ (λ a b e. inl e) (λ a b e. inr e) (λ a b e. e) (run-if .ensures)
+    (swept-at (Along (args .q) (args .n) (args .w)) true _ (sym (if1 .taken)) (c .before .before .rows .ensures))
 
 sub-run : tie.Need-sub-run
 sub-run c =
@@ -49,20 +50,10 @@ returns-2 c =
     let run-if = c .before .before .before .before .before .before .before .run-if in
     let args = c .before .before .before .before .before .before .before .before .before .before .before .args in
     let if1 = c .before .before .before .before .if1 in
-    swept-then _ (λ a b e. inl e) (λ a b e. inr e) (λ a b e. e) (run-if .ensures) (swept-at (Along (args .q) (args .n) (args .w)) false _ (sym (if1 .left)) (c .before .before .run .ensures))
+    swept-then _ (λ a b e. inl e) (λ a b e. inr e) (λ a b e. e) (run-if .ensures)
+    (swept-at (Along (args .q) (args .n) (args .w)) false _ (sym (if1 .left)) (c .before .before .run .ensures))
 
 pub layer-spec : {M : Type 1} → statement M
 layer-spec =
-    tie.close
-    (tie.spec
-    (λ c. search needs)
-    run-if-requires
-    (λ c κs. search needs)
-    add-result
-    (λ c. search needs)
-    returns
-    sub-run
-    run-requires
-    add-result-2
-    (λ c. search needs)
-    returns-2)
+    tie.close (tie.spec (λ c. search needs) run-if-requires (λ c κs. search needs) add-result (λ c. search needs) returns sub-run
+    run-requires add-result-2 (λ c. search needs) returns-2)

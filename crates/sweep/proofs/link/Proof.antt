@@ -1,6 +1,6 @@
 -- `sweep::link` meets its contract: by what the two points hold and how they are marked.
-use borrow.Author.Needs.{needs}
 use native.Mathlib.Omega.{arith}
+use borrow.Author.Needs.{needs}
 use denote.Ref.{now}
 use Rattle.sweep.proofs.Sweeping.{only-quiet, only-first, only-second, marked-one}
 use Rattle.sweep.proofs.link.Statement.{statement}
@@ -36,21 +36,6 @@ returns-6 c = only-quiet _ _ (record { there = λ q h. absurd (c .if4 .left h); 
 
 pub link-spec : {M : Type 1} → statement M
 link-spec =
-    tie.close
-    (tie.spec
-    (λ c. search needs)
-    (λ c. search needs)
-    returns
-    (λ c. search needs)
-    (λ c. search needs)
-    (λ c. search needs)
-    (λ c. search needs)
-    returns-2
-    returns-3
-    (λ c. search needs)
-    (λ c. search needs)
-    (λ c. search needs)
-    (λ c. search needs)
-    returns-4
-    returns-5
-    returns-6)
+    tie.close (tie.spec (λ c. search needs) (λ c. search needs) returns (λ c. search needs) (λ c. search needs) (λ c. search needs)
+    (λ c. search needs) returns-2 returns-3 (λ c. search needs) (λ c. search needs) (λ c. search needs) (λ c. search needs) returns-4
+    returns-5 returns-6)

@@ -1,8 +1,8 @@
 -- `sweep::mark_run` meets its contract: the edges passed are swept.
 use Prim.Native.Nat.{_≤_, _-_}
 use mathlib.Core.Path.{_≡_}
-use borrow.Author.Needs.{needs}
 use native.Mathlib.Omega.{arith}
+use borrow.Author.Needs.{needs}
 use lib.ListN.{length}
 use denote.Ref.{now}
 use Rattle.sweep.specs.Marks.{at, one, Swept}
@@ -37,17 +37,5 @@ returns c = below-all _ _ _ (omega arith) (c .before .loop .inv .2)
 
 pub mark-run-spec : {M : Type 1} → statement M
 mark-run-spec =
-    tie.close
-    (tie.spec
-    Inv-loop
-    μ-loop
-    loop-holds
-    (λ c. search needs)
-    (λ c. search needs)
-    (λ c κs. search needs)
-    add-made
-    (λ c. search needs)
-    (λ c. search needs)
-    loop-again
-    (λ c. search needs)
-    returns)
+    tie.close (tie.spec Inv-loop μ-loop loop-holds (λ c. search needs) (λ c. search needs) (λ c κs. search needs) add-made
+    (λ c. search needs) (λ c. search needs) loop-again (λ c. search needs) returns)

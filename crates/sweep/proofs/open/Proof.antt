@@ -2,9 +2,9 @@
 use Prim.Native.Nat.{ℕ, _≤_}
 use mathlib.Core.Path.{_≡_, sym, _∙_}
 use mathlib.Core.Logic.{_≢_}
-use borrow.Author.Needs.{needs}
 use native.Mathlib.Omega.{arith}
 use native.Mathlib.Decide.{ℕ-discrete}
+use borrow.Author.Needs.{needs}
 use Rattle.sweep.specs.Marks.{Shut}
 use Rattle.sweep.proofs.open.Statement.{statement}
 use Rattle.sweep.proofs.open.Tie as tie
@@ -17,7 +17,11 @@ asks va vb ma mb e n a b s =
     ]
 
 returns-5 : tie.Need-returns-5
-returns-5 c = (λ z. absurd (omega arith), λ s. absurd (asks _ _ _ _ (c .before .before .before .if1 .left) (c .before .before .if2 .left) (omega arith) (omega arith) s))
+returns-5 c = (
+  λ z. absurd (omega arith),
+  λ s. absurd
+      (asks _ _ _ _ (c .before .before .before .if1 .left) (c .before .before .if2 .left) (omega arith) (omega arith) s),
+)
 
 pub open-spec : {M : Type 1} → statement M
 open-spec = tie.close (tie.spec (λ c. search needs) (λ c. search needs) (λ c. search needs) (λ c. search needs) returns-5)

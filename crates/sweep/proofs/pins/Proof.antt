@@ -1,22 +1,22 @@
 -- `sweep::pins` meets its contract: the layers passed are swept; from is where the next one begins.
-use Prim.Native.Nat.{ℕ, _*_, _≤_, _-_}
+use Prim.Native.Nat.{_*_, _≤_, _-_}
 use mathlib.Core.Path.{_≡_}
-use mathlib.Core.Bool.{Bool}
-use borrow.Author.Needs.{needs}
 use native.Mathlib.Omega.{arith}
 use native.Mathlib.Nat.{zero-mul}
+use borrow.Author.Needs.{needs}
 use lib.ListN.{length}
 use denote.Ref.{now}
 use Rattle.sweep.specs.Marks.{val, two, Swept}
-use Rattle.sweep.specs.Edges.{gridOf, Below, Ends, EndsOf}
+use Rattle.sweep.specs.Edges.{counted, Below, Ends, EndsOf}
 use Rattle.sweep.proofs.Zeros.{zeros-le}
 use Rattle.sweep.proofs.Offsets.{next-row, rows-in}
-use Rattle.sweep.proofs.Sweeping.{below-none, below-more, below-all, swept-at}
+use Rattle.sweep.proofs.Sweeping.{below-none, below-more, below-all, swept-at₂}
 use Rattle.sweep.proofs.pins.Statement.{statement}
 use Rattle.sweep.proofs.pins.Tie as tie
 
 abbrev Inv-loop : tie.InvT-loop
-Inv-loop p s₀ x m₀ n w k first made₀ from₀ l₀ s m made from l = (l ≤ k) × (from ≡ l * (n * w)) × (length s ≡ length s₀) × (length m ≡ length m₀) × Swept (val p x) (two s₀ m₀) (two s m) (Below (EndsOf (record { n = n; w = w; k = k; first = first })) l) made
+Inv-loop p s₀ x m₀ n w k first made₀ from₀ l₀ s m made from l = (l ≤ k) × (from ≡ l * (n * w)) × (length s ≡ length s₀) × (length m ≡ length m₀) × Swept
+    (val p x) (two s₀ m₀) (two s m) (Below (EndsOf (counted n w k first)) l) made
 
 abbrev μ-loop : tie.MeasureT-loop
 μ-loop p s₀ x m₀ n w k first made₀ from₀ l₀ s m made from l = k - l
@@ -24,13 +24,13 @@ abbrev μ-loop : tie.MeasureT-loop
 loop-holds : tie.Need-loop-holds Inv-loop μ-loop
 loop-holds c =
     let args = c .before .before .before .before .args in
-    (search needs, omega (arith, zero-mul (args .f .n * args .f .w)), search needs, search needs, below-none _)
+    (search needs, omega (arith, zero-mul (args .n * args .w)), search needs, search needs, below-none _)
 
 ends-requires : tie.Need-ends-requires Inv-loop μ-loop
 ends-requires c κs =
     let start = c .before .before .before .before .before .before .before .before .before in
     let loop = c .before .before .before .before .loop in
-    omega (arith, start .pre, loop .inv, rows-in (loop .l) (start .args .f .k) (start .args .f .n * start .args .f .w) (c .before .before .before .loop-test .taken))
+    omega (arith, start .pre, loop .inv, rows-in (loop .l) (start .args .k) (start .args .n * start .args .w) (c .before .before .before .loop-test .taken))
 
 add-made : tie.Need-add-made Inv-loop μ-loop
 add-made c =
@@ -44,28 +44,27 @@ mul-from c =
     let start = c .before .before .before .before .before .before .before .before .before .before .before .before .before .before in
     let loop = c .before .before .before .before .before .before .before .before .before .loop in
     let loop-test = c .before .before .before .before .before .before .before .before .loop-test in
-    omega (arith, start .pre, start .good, loop .inv, rows-in (loop .l) (start .args .f .k) (start .args .f .n * start .args .f .w) (loop-test .taken))
+    omega (arith, start .pre, start .good, loop .inv, rows-in (loop .l) (start .args .k) (start .args .n * start .args .w) (loop-test .taken))
 
 add-from : tie.Need-add-from Inv-loop μ-loop
 add-from c =
     let start = c .before .before .before .before .before .before .before .before .before .before .before .before .before .before in
     let loop = c .before .before .before .before .before .before .before .before .before .loop in
     let loop-test = c .before .before .before .before .before .before .before .before .loop-test in
-    omega (arith, start .pre, start .good, loop .inv, rows-in (loop .l) (start .args .f .k) (start .args .f .n * start .args .f .w) (loop-test .taken))
+    omega (arith, start .pre, start .good, loop .inv, rows-in (loop .l) (start .args .k) (start .args .n * start .args .w) (loop-test .taken))
 
 loop-again : tie.Need-loop-again Inv-loop μ-loop
 loop-again c =
-    let loop = c .before .before .before .before .before .before .before .before .before .loop in
-    let args = c .before .before .before .before .before .before .before .before .before .before .before .before .before .before .args in
-    let is-horizontal = c .before .before .before .before .before .is-horizontal in
-    let ends = c .before .before .before .before .ends in (
+    let c4 = c .before .before .before .before in
+    let c9 = c4 .before .before .before .before .before in
+    let args = c9 .before .before .before .before .before .args in
+    let loop = c9 .loop in (
       search needs,
-      omega (arith, loop .inv, next-row (loop .l) (args .f .n * args .f .w)),
+      omega (arith, loop .inv, next-row (loop .l) (args .n * args .w)),
       search needs,
       search needs,
-      below-more (EndsOf (gridOf (args .f))) _ (loop .inv .4)
-          (swept-at (λ (b : Bool). Ends (loop .l * (args .f .n * args .f .w)) (args .f .n) (args .f .w) b) _ _ (is-horizontal .ensures)
-          (swept-at (λ (q : ℕ). Ends q (args .f .n) (args .f .w) (is-horizontal .result)) _ _ (loop .inv .1) (ends .ensures))),
+      below-more (EndsOf (counted (args .n) (args .w) (args .k) (args .first))) _ (loop .inv .4)
+          (swept-at₂ (λ q b. Ends q (args .n) (args .w) b) (loop .inv .1) (c4 .before .is-horizontal .ensures) (c4 .ends .ensures)),
     )
 
 returns : tie.Need-returns Inv-loop μ-loop
@@ -73,19 +72,5 @@ returns c = below-all _ _ _ (omega arith) (c .before .loop .inv .4)
 
 pub pins-spec : {M : Type 1} → statement M
 pins-spec =
-    tie.close
-    (tie.spec
-    Inv-loop
-    μ-loop
-    loop-holds
-    (λ c κs. search needs)
-    ends-requires
-    add-made
-    mul-from
-    add-from
-    (λ c. search needs)
-    (λ c. search needs)
-    loop-again
-    (λ c. search needs)
-    (λ c. search needs)
-    returns)
+    tie.close (tie.spec Inv-loop μ-loop loop-holds (λ c κs. search needs) ends-requires add-made mul-from add-from (λ c. search needs)
+    (λ c. search needs) loop-again (λ c. search needs) (λ c. search needs) returns)

@@ -1,9 +1,9 @@
 -- `sweep::rows` meets its contract: the tracks passed are swept; from is where the next one begins.
 use Prim.Native.Nat.{ℕ, _+_, _*_, _≤_, _-_}
 use mathlib.Core.Path.{_≡_}
-use borrow.Author.Needs.{needs}
 use native.Mathlib.Omega.{arith}
 use native.Mathlib.Nat.{zero-mul}
+use borrow.Author.Needs.{needs}
 use lib.ListN.{length}
 use denote.Ref.{now}
 use Rattle.sweep.specs.Marks.{at, one, Swept}
@@ -44,25 +44,18 @@ add-from c =
 loop-again : tie.Need-loop-again Inv-loop μ-loop
 loop-again c =
     let loop = c .before .before .before .before .before .loop in
-    let args = c .before .before .before .before .before .before .before .before .args in
-    (search needs, omega (arith, next-row (loop .j) (args .n)), search needs, below-more (λ j. Run (args .q + j * args .n) (args .n - 1) 1) _ (loop .inv .3) (swept-at (λ (q : ℕ). Run q (args .n - 1) 1) _ _ (loop .inv .1) (c .before .before .run .ensures)))
+    let args = c .before .before .before .before .before .before .before .before .args in (
+      search needs,
+      omega (arith, next-row (loop .j) (args .n)),
+      search needs,
+      below-more (λ j. Run (args .q + j * args .n) (args .n - 1) 1) _
+          (loop .inv .3) (swept-at (λ (q : ℕ). Run q (args .n - 1) 1) _ _ (loop .inv .1) (c .before .before .run .ensures)),
+    )
 
 returns : tie.Need-returns Inv-loop μ-loop
 returns c = below-all _ _ _ (omega arith) (c .before .loop .inv .3)
 
 pub rows-spec : {M : Type 1} → statement M
 rows-spec =
-    tie.close
-    (tie.spec
-    Inv-loop
-    μ-loop
-    loop-holds
-    (λ c. search needs)
-    run-requires
-    add-made
-    add-from
-    (λ c. search needs)
-    (λ c. search needs)
-    loop-again
-    (λ c. search needs)
-    returns)
+    tie.close (tie.spec Inv-loop μ-loop loop-holds (λ c. search needs) run-requires add-made add-from (λ c. search needs)
+    (λ c. search needs) loop-again (λ c. search needs) returns)

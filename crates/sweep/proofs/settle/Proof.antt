@@ -1,11 +1,12 @@
 -- `sweep::settle` meets its contract. Each sweep that goes on makes a mark, so the spots without one become fewer.
 use Prim.Native.Nat.{_+_, min}
 use mathlib.Core.Path.{_≡_}
-use borrow.Author.Needs.{needs}
 use native.Mathlib.Omega.{arith}
+use borrow.Author.Needs.{needs}
 use lib.ListN.{length}
+use Rattle.grid.specs.Grid.{gridOf}
 use Rattle.sweep.specs.Marks.{val, two, zeros}
-use Rattle.sweep.specs.Edges.{gridOf, Edges}
+use Rattle.sweep.specs.Edges.{Edges}
 use Rattle.sweep.proofs.Ageing.{zeros-aged, aged-two}
 use Rattle.sweep.proofs.Settling.{Going, going-start, going-more, going-end}
 use Rattle.sweep.proofs.settle.Statement.{statement}
@@ -31,31 +32,30 @@ loop-less c =
     let loop = c .before .before .before .before .before .before .before .before .before .before .before .before .before .before .before .before .loop in
     let age = c .before .before .before .before .before .before .before .before .before .before .before .before .before .age in
     let age2 = c .before .before .before .before .before .before .before .before .before .age2 in
-    omega (arith, sweep .ensures .less, zeros-aged (loop .s) (age .last .0) (age .kept .0) (age .ensures), zeros-aged (loop .m) (age2 .last .0) (age2 .kept .0) (age2 .ensures))
+    omega (
+      arith,
+      sweep .ensures .less,
+      zeros-aged (loop .s) (age .last .0) (age .kept .0) (age .ensures),
+      zeros-aged (loop .m) (age2 .last .0)
+          (age2 .kept .0) (age2 .ensures),
+    )
 
 loop-again : tie.Need-loop-again Inv-loop μ-loop
 loop-again c =
     let loop = c .before .before .before .before .before .before .before .before .before .before .before .before .before .before .before .before .loop in
     let age = c .before .before .before .before .before .before .before .before .before .before .before .before .before .age in
     let age2 = c .before .before .before .before .before .before .before .before .before .age2 in
-    let sweep = c .before .before .before .before .sweep in
-    (search needs, search needs, going-more (loop .inv .2) (aged-two (loop .s) (loop .m) (age .last .0) (age2 .last .0) (age .ensures) (age2 .ensures)) (sweep .ensures))
+    let sweep = c .before .before .before .before .sweep in (
+      search needs,
+      search needs,
+      going-more (loop .inv .2) (aged-two (loop .s) (loop .m) (age .last .0) (age2 .last .0) (age .ensures) (age2 .ensures))
+          (sweep .ensures),
+    )
 
 returns : tie.Need-returns Inv-loop μ-loop
 returns c = going-end (c .loop-test .left) (c .before .loop .inv .2)
 
 pub settle-spec : {M : Type 1} → statement M
 settle-spec =
-    tie.close
-    (tie.spec
-    Inv-loop
-    μ-loop
-    loop-holds
-    (λ c κs. search needs)
-    (λ c κs. search needs)
-    sweep-requires
-    loop-less
-    loop-again
-    (λ c. search needs)
-    (λ c. search needs)
-    returns)
+    tie.close (tie.spec Inv-loop μ-loop loop-holds (λ c κs. search needs) (λ c κs. search needs) sweep-requires loop-less loop-again
+    (λ c. search needs) (λ c. search needs) returns)

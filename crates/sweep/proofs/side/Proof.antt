@@ -1,9 +1,9 @@
 -- `sweep::side` meets its contract: the edges of the pins passed are swept; from is where the next point stands.
 use Prim.Native.Nat.{ℕ, _+_, _*_, _≤_, _-_}
 use mathlib.Core.Path.{_≡_}
-use borrow.Author.Needs.{needs}
 use native.Mathlib.Omega.{arith}
 use native.Mathlib.Nat.{zero-mul}
+use borrow.Author.Needs.{needs}
 use lib.ListN.{length}
 use denote.Ref.{now}
 use Rattle.sweep.specs.Marks.{a-pin, a-point, val, two, Swept}
@@ -15,7 +15,8 @@ use Rattle.sweep.proofs.side.Statement.{statement}
 use Rattle.sweep.proofs.side.Tie as tie
 
 abbrev Inv-loop : tie.InvT-loop
-Inv-loop p s₀ first x m₀ start gap count made₀ from₀ t₀ s m made from t = (t ≤ count) × (from ≡ start + t * gap) × (length s ≡ length s₀) × (length m ≡ length m₀) × Swept (val p x) (two s₀ m₀) (two s m) (PinRun first start gap t) made
+Inv-loop p s₀ first x m₀ start gap count made₀ from₀ t₀ s m made from t = (t ≤ count) × (from ≡ start + t * gap) × (length s ≡ length s₀) ×
+    (length m ≡ length m₀) × Swept (val p x) (two s₀ m₀) (two s m) (PinRun first start gap t) made
 
 abbrev μ-loop : tie.MeasureT-loop
 μ-loop p s₀ first x m₀ start gap count made₀ from₀ t₀ s m made from t = count - t
@@ -54,26 +55,20 @@ loop-again : tie.Need-loop-again Inv-loop μ-loop
 loop-again c =
     let loop = c .before .before .before .before .before .before .before .before .loop in
     let args = c .before .before .before .before .before .before .before .before .before .before .before .before .before .args in
-    let touch = c .before .before .before .before .touch in
-    (search needs, omega (arith, next-row (loop .t) (args .gap), loop .inv), search needs, search needs, below-more (λ t. Only (a-pin (args .first + t)) (a-point (args .start + t * args .gap))) _ (loop .inv .4) (swept-at (λ (q : ℕ). Only (a-pin (args .first + loop .t)) (a-point q)) _ _ (loop .inv .1) (touch .ensures)))
+    let touch = c .before .before .before .before .touch in (
+      search needs,
+      omega (arith, next-row (loop .t) (args .gap), loop .inv),
+      search needs,
+      search needs,
+      below-more
+          (λ t. Only (a-pin (args .first + t)) (a-point (args .start + t * args .gap))) _ (loop .inv .4)
+          (swept-at (λ (q : ℕ). Only (a-pin (args .first + loop .t)) (a-point q)) _ _ (loop .inv .1) (touch .ensures)),
+    )
 
 returns : tie.Need-returns Inv-loop μ-loop
 returns c = below-all _ _ _ (omega arith) (c .before .loop .inv .4)
 
 pub side-spec : {M : Type 1} → statement M
 side-spec =
-    tie.close
-    (tie.spec
-    Inv-loop
-    μ-loop
-    loop-holds
-    add-touch
-    touch-requires
-    add-made
-    add-from
-    (λ c. search needs)
-    (λ c. search needs)
-    loop-again
-    (λ c. search needs)
-    (λ c. search needs)
-    returns)
+    tie.close (tie.spec Inv-loop μ-loop loop-holds add-touch touch-requires add-made add-from (λ c. search needs) (λ c. search needs)
+    loop-again (λ c. search needs) (λ c. search needs) returns)

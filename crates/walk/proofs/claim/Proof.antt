@@ -16,12 +16,4 @@ returns-3 c = record { yes = λ e. record { free = c .if2 .left; same = c .befor
 
 pub claim-spec : {M : Type 1} → statement M
 claim-spec =
-    tie.close
-    (tie.spec
-    (λ c. search needs)
-    returns
-    (λ c. search needs)
-    returns-2
-    (λ c. search needs)
-    (λ c. search needs)
-    returns-3)
+    tie.close (tie.spec (λ c. search needs) returns (λ c. search needs) returns-2 (λ c. search needs) (λ c. search needs) returns-3)

@@ -12,7 +12,11 @@ returns c =
     (λ e. sym (is-horizontal .ensures) ∙ if1 .taken ∙ sym e, λ e. sym e ∙ sym (is-horizontal .ensures) ∙ if1 .taken)
 
 returns-2 : tie.Need-returns-2
-returns-2 c = (λ e. absurd (false≢true e), λ e. absurd (true≢false (sym (c .if2 .taken) ∙ sym e ∙ sym (c .before .before .is-horizontal .ensures) ∙ c .before .if1 .left)))
+returns-2 c = (
+  λ e. absurd (false≢true e),
+  λ e. absurd
+      (true≢false (sym (c .if2 .taken) ∙ sym e ∙ sym (c .before .before .is-horizontal .ensures) ∙ c .before .if1 .left)),
+)
 
 returns-3 : tie.Need-returns-3
 returns-3 c = (λ e. sym (c .before .before .is-horizontal .ensures) ∙ c .before .if1 .left ∙ sym (c .if2 .left), λ e. refl)

@@ -1,25 +1,13 @@
 -- `walk::retreat` meets its contract: a step against the mark's direction.
 use borrow.Author.Needs.{needs}
-use Rattle.sweep.specs.Edges.{gridOf}
 use Rattle.walk.proofs.Steps.{stay}
 use Rattle.walk.proofs.retreat.Statement.{statement}
 use Rattle.walk.proofs.retreat.Tie as tie
 
 returns-5 : tie.Need-returns-5
-returns-5 c =
-    let start = c .before .before .before .before in
-    stay (gridOf (start .args .f)) (start .args .c) (start .pre .1) _
+returns-5 c = stay (c .before .before .before .before .pre .1)
 
 pub retreat-spec : {M : Type 1} → statement M
 retreat-spec =
-    tie.close
-    (tie.spec
-    (λ c κs. search needs)
-    (λ c. search needs)
-    (λ c κs. search needs)
-    (λ c. search needs)
-    (λ c κs. search needs)
-    (λ c. search needs)
-    (λ c κs. search needs)
-    (λ c. search needs)
-    returns-5)
+    tie.close (tie.spec (λ c κs. search needs) (λ c. search needs) (λ c κs. search needs) (λ c. search needs) (λ c κs. search needs)
+    (λ c. search needs) (λ c κs. search needs) (λ c. search needs) returns-5)

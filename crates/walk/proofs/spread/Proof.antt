@@ -1,10 +1,11 @@
 -- `walk::spread` meets its contract: round by round.
 use mathlib.Core.Path.{_≡_, refl}
-use borrow.Author.Needs.{needs}
 use native.Mathlib.Omega.{arith}
+use borrow.Author.Needs.{needs}
 use lib.ListN.{length}
+use Rattle.grid.specs.Grid.{gridOf}
 use Rattle.sweep.specs.Marks.{val, two, Grown}
-use Rattle.sweep.specs.Edges.{gridOf, Edges}
+use Rattle.sweep.specs.Edges.{Edges}
 use Rattle.sweep.proofs.Settling.{grown-none, grown-then}
 use Rattle.walk.proofs.spread.Statement.{statement}
 use Rattle.walk.proofs.spread.Tie as tie
@@ -41,18 +42,5 @@ returns-2 c = c .before .loop .inv .2
 
 pub spread-spec : {M : Type 1} → statement M
 spread-spec =
-    tie.close
-    (tie.spec
-    Inv-loop
-    μ-loop
-    loop-holds
-    (λ c. search needs)
-    take-up-all-requires
-    (λ c. search needs)
-    (λ c. search needs)
-    returns
-    (λ c. search needs)
-    loop-again
-    (λ c. search needs)
-    (λ c. search needs)
-    returns-2)
+    tie.close (tie.spec Inv-loop μ-loop loop-holds (λ c. search needs) take-up-all-requires (λ c. search needs) (λ c. search needs)
+    returns (λ c. search needs) loop-again (λ c. search needs) (λ c. search needs) returns-2)

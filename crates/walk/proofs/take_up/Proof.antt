@@ -1,70 +1,93 @@
 -- `walk::take_up` meets its contract: a waiting pin is marked, so what is walked from it is reached.
-use borrow.Author.Needs.{needs}
+use Prim.Native.Nat.{_*_, _+_}
+use mathlib.Core.Path.{_∙_, refl}
 use native.Mathlib.Omega.{arith}
-use lib.ListN.{length-set}
+use borrow.Author.Needs.{needs}
+use lib.ListN.{length-set, set}
 use lib.Seq.{getD-set-same}
-use mathlib.Core.Path.{_∙_}
 use denote.Ref.{now}
+use Rattle.grid.specs.Grid.{gridOf}
 use Rattle.sweep.proofs.Settling.{grown-none, grown-then}
+use Rattle.sweep.proofs.Offsets.{still-fits}
+use Rattle.sweep.specs.Marks.{Grown, val, two}
+use Rattle.sweep.specs.Edges.{Edges}
+use Rattle.walk.specs.Walk.{On}
+use Rattle.walk.proofs.Steps.{small, on-first}
 use Rattle.walk.proofs.Growing.{remarked}
 use Rattle.walk.proofs.take_up.Statement.{statement}
 use Rattle.walk.proofs.take_up.Tie as tie
 
-slice-read-if1 : tie.Need-slice-read-if1
-slice-read-if1 c =
-    let pre = c .before .before .before .before .before .pre in
-    omega (arith, pre)
+-- the pin's mark, which is another than before
+marked-anew : (c : tie.Else1)
+    → let args = c .before .before .before .before .before .before .args in
+    let m = now (args .m) in
+    Grown (val (now (args .p)) (now (args .x))) (two (now (args .s)) m) (two (set (now (args .s)) (args .a) 2) m) (Edges (gridOf (args .f)))
+marked-anew c = remarked (omega (arith, c .before .before .before .before .before .before .pre)) (λ z. omega (arith, c .if1 .left)) (λ z. omega arith)
+
+-- the pin's point on the first layer
+on-tip : (c : tie.After-walk-from-arg2)
+    → let t = c .before .before .before .before .before .before .touch-of .result in
+    let n = c .before .before .before .before .before .column-count .result in
+    On (gridOf (c .before .before .before .before .before .before .before .before .before .before .before .before .before .args .f))
+    (record { q = t .j * n + t .i; i = t .i; j = t .j; l = 0; d = 1 })
+on-tip c =
+    let n = c .before .before .before .before .before .column-count in
+    let shape = c .before .before .before .before .before .before .before .before .before .before .before .before .before .pre .0 .points .shape in
+    on-first (n .ensures) (omega (arith, n .ensures, c .before .before .before .before .if2 .left))
+    (omega (arith, c .before .before .before .track-count .ensures, c .before .before .if3 .left)) (shape .deep .0)
 
 returns : tie.Need-returns
 returns c = (grown-none, search needs)
 
-slice-write-s : tie.Need-slice-write-s
-slice-write-s c =
-    let pre = c .before .before .before .before .before .before .pre in
-    omega (arith, pre)
-
 returns-2 : tie.Need-returns-2
-returns-2 c =
-    let start = c .before .before .before .before .before .before .before .before .before in
-    (remarked (now (start .args .p)) (now (start .args .s)) (now (start .args .x)) (now (start .args .m)) (start .args .a) 2 (omega (arith, start .pre)) (λ z. omega (arith, c .before .before .before .if1 .left)) (λ z. omega arith), search needs)
+returns-2 c = (marked-anew (c .before .before .before), search needs)
 
 returns-3 : tie.Need-returns-3
-returns-3 c =
-    let start = c .before .before .before .before .before .before .before .before .before .before .before in
-    let if1 = c .before .before .before .before .before .if1 in
-    (remarked (now (start .args .p)) (now (start .args .s)) (now (start .args .x)) (now (start .args .m)) (start .args .a) 2 (omega (arith, start .pre)) (λ z. omega (arith, if1 .left)) (λ z. omega arith), search needs)
+returns-3 c = (marked-anew (c .before .before .before .before .before), search needs)
+
+mul-t15 : tie.Need-mul-t15
+mul-t15 c = omega (
+  arith,
+  small
+      (c .before .before .before .before .before .before .before .before .before .before .before .before .before .pre .0 .points .shape) (on-tip c) .inside,
+  small (c .before .before .before .before .before .before .before .before .before .before .before .before .before .pre .0 .points .shape)
+      (on-tip c) .size,
+)
+
+add-t21 : tie.Need-add-t21
+add-t21 c = omega (
+  arith,
+  small
+      (c .before .before .before .before .before .before .before .before .before .before .before .before .before .pre .0 .points .shape) (on-tip c) .inside,
+  small (c .before .before .before .before .before .before .before .before .before .before .before .before .before .pre .0 .points .shape)
+      (on-tip c) .size,
+)
 
 walk-from-requires : tie.Need-walk-from-requires
 walk-from-requires c κs =
-    let start = c .before .before .before .before .before .before .before .before .before .before .before .before .before in
-    let touch-of = c .before .before .before .before .before .before .touch-of in
-    (record { pins = start .pre .0 .pins; pin-marks = simp length-set (start .pre .0 .pin-marks); points = start .pre .0 .points }, start .pre .1, λ z. omega (arith, getD-set-same (now (start .args .s)) (start .args .a) 2 0 (omega (arith, start .pre))), search needs, search needs, touch-of .ensures)
+    let start = c .before .before .before .before .before .before .before .before .before .before .before .before .before in (
+      still-fits refl (simp length-set) refl (start .pre .0),
+      record {
+        place = start .pre .1;
+        marked = λ z. omega (arith, getD-set-same (now (start .args .s)) (start .args .a) 2 0 (omega (arith, start .pre)));
+        cell = on-tip c;
+        tip = c .before .before .before .before .before .before .touch-of .ensures;
+      },
+      refl,
+    )
 
 same-length-3 : tie.Need-same-length-3
-same-length-3 c =
-    let walk-from = c .before .before .before .before .walk-from in
-    walk-from .kept .1 .0 ∙ simp length-set
+same-length-3 c = c .before .before .before .before .walk-from .kept .1 .0 ∙ simp length-set
 
 returns-4 : tie.Need-returns-4
-returns-4 c =
-    let start = c .before .before .before .before .before .before .before .before .before .before .before .before .before .before .before .before .before .before in
-    let if1 = c .before .before .before .before .before .before .before .before .before .before .before .before .if1 in
-    let walk-from = c .before .before .before .before .walk-from in
-    (grown-then (remarked (now (start .args .p)) (now (start .args .s)) (now (start .args .x)) (now (start .args .m)) (start .args .a) 2 (omega (arith, start .pre)) (λ z. omega (arith, if1 .left)) (λ z. omega arith)) (walk-from .ensures), search needs)
+returns-4 c = (
+  grown-then (marked-anew (c .before .before .before .before .before .before .before .before .before .before .before .before))
+      (c .before .before .before .before .walk-from .ensures),
+  search needs,
+)
 
 pub take-up-spec : {M : Type 1} → statement M
 take-up-spec =
-    tie.close
-    (tie.spec
-    slice-read-if1
-    returns
-    slice-write-s
-    (λ c κs. search needs)
-    (λ c. search needs)
-    returns-2
-    (λ c. search needs)
-    returns-3
-    walk-from-requires
-    same-length-3
-    (λ c. search needs)
-    returns-4)
+    tie.close (tie.spec (λ c. search needs) returns (λ c. search needs) (λ c κs. search needs) (λ c κs. search needs)
+    (λ c. search needs) returns-2 (λ c κs. search needs) (λ c. search needs) returns-3 mul-t15 add-t21 walk-from-requires same-length-3
+    (λ c. search needs) returns-4)

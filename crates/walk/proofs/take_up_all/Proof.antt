@@ -1,17 +1,19 @@
 -- `walk::take_up_all` meets its contract: pin by pin.
 use Prim.Native.Nat.{_-_, _≤_}
 use mathlib.Core.Path.{_≡_, refl}
-use borrow.Author.Needs.{needs}
 use native.Mathlib.Omega.{arith}
+use borrow.Author.Needs.{needs}
 use lib.ListN.{length}
+use Rattle.grid.specs.Grid.{gridOf}
 use Rattle.sweep.specs.Marks.{val, two, Grown}
-use Rattle.sweep.specs.Edges.{gridOf, Edges}
+use Rattle.sweep.specs.Edges.{Edges}
 use Rattle.sweep.proofs.Settling.{grown-none, grown-then}
 use Rattle.walk.proofs.take_up_all.Statement.{statement}
 use Rattle.walk.proofs.take_up_all.Tie as tie
 
 abbrev Inv-loop : tie.InvT-loop
-Inv-loop p s₀ x m₀ f waited₀ a₀ s m waited a = (a ≤ 360) × (waited ≤ a) × (length s ≡ length s₀) × (length m ≡ length m₀) × Grown (val p x) (two s₀ m₀) (two s m) (Edges (gridOf f))
+Inv-loop p s₀ x m₀ f waited₀ a₀ s m waited a = (a ≤ 360) × (waited ≤ a) × (length s ≡ length s₀) × (length m ≡ length m₀) × Grown (val p x) (two s₀ m₀)
+    (two s m) (Edges (gridOf f))
 
 abbrev μ-loop : tie.MeasureT-loop
 μ-loop p s₀ x m₀ f waited₀ a₀ s m waited a = 360 - a
@@ -43,16 +45,5 @@ returns c = c .before .loop .inv .4
 
 pub take-up-all-spec : {M : Type 1} → statement M
 take-up-all-spec =
-    tie.close
-    (tie.spec
-    Inv-loop
-    μ-loop
-    loop-holds
-    take-up-requires
-    add-waited
-    (λ c. search needs)
-    (λ c. search needs)
-    loop-again
-    (λ c. search needs)
-    (λ c. search needs)
-    returns)
+    tie.close (tie.spec Inv-loop μ-loop loop-holds take-up-requires add-waited (λ c. search needs) (λ c. search needs) loop-again
+    (λ c. search needs) (λ c. search needs) returns)

@@ -1,7 +1,7 @@
 -- `walk::touch_of` meets its contract: by the pin's side.
 use mathlib.Core.Path.{refl}
-use borrow.Author.Needs.{needs}
 use native.Mathlib.Omega.{arith}
+use borrow.Author.Needs.{needs}
 use Rattle.walk.specs.Walk.{north-tip, south-tip, west-tip, east-tip}
 use Rattle.walk.proofs.touch_of.Statement.{statement}
 use Rattle.walk.proofs.touch_of.Tie as tie
@@ -19,4 +19,6 @@ returns-4 : tie.Need-returns-4
 returns-4 c = east-tip (omega arith) (omega arith)
 
 pub touch-of-spec : {M : Type 1} → statement M
-touch-of-spec = tie.close (tie.spec (λ c. search needs) returns returns-2 returns-3 (λ c. search needs) returns-4)
+touch-of-spec =
+    tie.close (tie.spec (λ c κs. search needs) (λ c. search needs) returns returns-2 returns-3 (λ c κs. search needs)
+    (λ c. search needs) returns-4)

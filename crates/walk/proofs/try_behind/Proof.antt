@@ -1,53 +1,32 @@
 -- `walk::try_behind` meets its contract: the point behind is joined to the cell, so a claim of it is reached.
-use borrow.Author.Needs.{needs}
 use native.Mathlib.Omega.{arith}
-use denote.Ref.{now}
-use Rattle.sweep.specs.Edges.{gridOf}
-use Rattle.walk.proofs.Growing.{within, tried, still-ready, moved-then}
+use borrow.Author.Needs.{needs}
+use Rattle.walk.proofs.Growing.{moved-to, still-ready, moved-then}
+use Rattle.walk.proofs.Steps.{in-buffer}
 use Rattle.walk.proofs.try_behind.Statement.{statement}
 use Rattle.walk.proofs.try_behind.Tie as tie
 
-slice-read-claim-if : tie.Need-slice-read-claim-if
-slice-read-claim-if c =
-    let start = c .before .before .before .before in
-    within (start .args .f) (now (start .args .x)) (now (start .args .m)) (start .args .c) (start .pre .fits) (start .pre .cell) .1
-
 claim-if-requires : tie.Need-claim-if-requires
-claim-if-requires c κs =
-    let start = c .before .before .before .before .before in
-    let behind = c .before .before .behind in
-    within (start .args .f) (now (start .args .x)) (now (start .args .m)) (behind .result) (start .pre .fits) (behind .ensures .cell)
+claim-if-requires c κs = in-buffer (c .before .before .before .before .pre .fits) (c .before .behind .ensures .cell)
 
 returns : tie.Need-returns
 returns c =
-    let start = c .before .before .before .before .before .before .before .before .before in
-    let behind = c .before .before .before .before .before .before .behind in
-    let claim = c .before .before .before .claim-if in
-    record { cell = behind .ensures .cell; grown = tried (start .args .f) (now (start .args .x)) (now (start .args .m)) (claim .last .1 .1 .0) (start .args .c) (behind .result) (start .args .v) _ _ (start .pre) (behind .ensures) (claim .ensures .0) (λ z. omega arith) }
+    let behind = c .before .before .before .before .before .behind in
+    moved-to (c .before .before .before .before .before .before .before .before .pre) (behind .ensures) (c .before .before .before .claim-if .ensures .0)
+    (λ z. omega arith) (behind .ensures .cell)
 
 try-above-requires : tie.Need-try-above-requires
-try-above-requires c κs =
-    let start = c .before .before .before .before .before .before .before .before .before .before in
-    let claim = c .before .before .before .before .claim-if in
-    let behind = c .before .before .before .before .before .before .before .behind in
-    still-ready (start .args .f) (now (start .args .x)) (now (start .args .m)) (claim .last .1 .1 .0) (start .args .c) (start .args .v) (start .pre) (tried (start .args .f) (now (start .args .x)) (now (start .args .m)) (claim .last .1 .1 .0) (start .args .c) (behind .result) (start .args .v) _ _ (start .pre) (behind .ensures) (claim .ensures .0) (λ z. omega arith)) (claim .kept .1 .1 .0)
+try-above-requires c κs = still-ready (c .before .before .before .before .before .before .before .before .before .pre)
+    (c .before .before .before .before .before .before .behind .ensures) (c .before .before .before .before .claim-if .ensures .0) (λ z. omega arith)
+    (c .before .before .before .before .claim-if .kept .1 .1 .0)
 
 returns-2 : tie.Need-returns-2
 returns-2 c =
-    let start = c .before .before .before .before .before .before .before .before .before .before .before .before .before in
-    let claim = c .before .before .before .before .before .before .before .claim-if in
-    let behind = c .before .before .before .before .before .before .before .before .before .before .behind in
-    moved-then (gridOf (start .args .f)) (now (start .args .x)) (now (start .args .m)) (claim .last .1 .1 .0) _ _ (tried (start .args .f) (now (start .args .x)) (now (start .args .m)) (claim .last .1 .1 .0) (start .args .c) (behind .result) (start .args .v) _ _ (start .pre) (behind .ensures) (claim .ensures .0) (λ z. omega arith)) (c .before .before .try-above .ensures)
+    let c7 = c .before .before .before .before .before .before .before in
+    moved-then (c7 .before .before .before .before .before .pre) (c7 .before .before .behind .ensures) (c7 .claim-if .ensures .0) (λ z. omega arith)
+    (c .before .before .try-above .ensures)
 
 pub try-behind-spec : {M : Type 1} → statement M
 try-behind-spec =
-    tie.close
-    (tie.spec
-    (λ c κs. search needs)
-    slice-read-claim-if
-    claim-if-requires
-    (λ c. search needs)
-    returns
-    try-above-requires
-    (λ c. search needs)
+    tie.close (tie.spec (λ c κs. search needs) claim-if-requires (λ c. search needs) returns try-above-requires (λ c. search needs)
     returns-2)

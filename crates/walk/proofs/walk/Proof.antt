@@ -1,18 +1,20 @@
 -- `walk::walk` meets its contract: each step leaves what is marked reached. The measure is the steps left.
 use mathlib.Core.Path.{_≡_, refl}
-use borrow.Author.Needs.{needs}
 use native.Mathlib.Omega.{arith}
+use borrow.Author.Needs.{needs}
 use lib.ListN.{length}
+use Rattle.grid.specs.Grid.{gridOf}
 use Rattle.sweep.specs.Marks.{val, two, Grown}
-use Rattle.sweep.specs.Edges.{gridOf, Edges}
+use Rattle.sweep.specs.Edges.{Edges}
 use Rattle.sweep.proofs.Settling.{grown-none, grown-then}
 use Rattle.walk.specs.Walk.{On}
-use Rattle.walk.proofs.Steps.{small}
+use Rattle.walk.proofs.Steps.{in-buffer}
 use Rattle.walk.proofs.walk.Statement.{statement}
 use Rattle.walk.proofs.walk.Tie as tie
 
 abbrev Inv-loop : tie.InvT-loop
-Inv-loop p s₀ x m₀ f steps here₀ left₀ s m here left = (length s ≡ length s₀) × (length m ≡ length m₀) × On (gridOf f) here × Grown (val p x) (two s₀ m₀) (two s m) (Edges (gridOf f))
+Inv-loop p s₀ x m₀ f steps here₀ left₀ s m here left = (length s ≡ length s₀) × (length m ≡ length m₀) × On (gridOf f) here × Grown (val p x) (two s₀ m₀)
+    (two s m) (Edges (gridOf f))
 
 abbrev μ-loop : tie.MeasureT-loop
 μ-loop p s₀ x m₀ f steps here₀ left₀ s m here left = left
@@ -26,7 +28,7 @@ slice-read-if1 : tie.Need-slice-read-if1 Inv-loop μ-loop
 slice-read-if1 c =
     let start = c .before .before .before .before .before .before .before in
     let loop = c .before .before .loop in
-    omega (arith, small (start .args .f) (loop .here) (start .pre .0 .points .shape) (loop .inv .2), start .pre, loop .inv .1)
+    omega (arith, in-buffer (start .pre .0 .points) (loop .inv .2), loop .inv .1)
 
 returns : tie.Need-returns Inv-loop μ-loop
 returns c = c .before .before .before .loop .inv .3
@@ -54,22 +56,6 @@ returns-3 c = c .before .loop .inv .3
 
 pub walk-spec : {M : Type 1} → statement M
 walk-spec =
-    tie.close
-    (tie.spec
-    Inv-loop
-    μ-loop
-    loop-holds
-    (λ c. search needs)
-    slice-read-if1
-    (λ c. search needs)
-    (λ c. search needs)
-    returns
-    (λ c. search needs)
-    (λ c. search needs)
-    returns-2
-    advance-requires
-    (λ c. search needs)
-    loop-again
-    (λ c. search needs)
-    (λ c. search needs)
-    returns-3)
+    tie.close (tie.spec Inv-loop μ-loop loop-holds (λ c. search needs) slice-read-if1 (λ c. search needs) (λ c. search needs) returns
+    (λ c. search needs) (λ c. search needs) returns-2 advance-requires (λ c. search needs) loop-again (λ c. search needs)
+    (λ c. search needs) returns-3)
