@@ -1,0 +1,11 @@
+pub mod Channels
+pub mod Solidity
+pub mod Unwired
+pub mod Tracks
+pub mod Legality
+pub mod OneMove
+pub mod Choices
+pub mod Turns
+pub mod Moving
+pub mod Gathering
+pub mod Planning

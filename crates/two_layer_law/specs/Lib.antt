@@ -1,0 +1,3 @@
+pub mod Solid
+pub mod Cuts
+pub mod Moves

@@ -1,0 +1,5 @@
+pub mod Tables
+pub mod Listing
+pub mod Gathering
+pub mod Moving
+pub mod Promise
