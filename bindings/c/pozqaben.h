@@ -11,21 +11,27 @@
  *
  *    number   refused because                                              place
  *    1        the ticket ends before a byte that is needed                 the ticket's length
- *    2        byte 0, the kind, is none of 1, 2 and 3                      0
+ *    2        byte 0, the kind, is none of 1 to 4                          0
  *    3        byte 1, the length n, is none of 1 to 90                     1
- *    4        byte 2 is none of 1 to 90 (box) or of 1 to 8                 2
+ *    4        byte 2 is none of 1 to 90 (box) or of 1 to 8 (row, channel), 2
+ *             or is not 1 (two-layer channel)
  *    5        byte 3, the side map, has a side that the kind has not       3
  *    6        a position map has no bit, or a spare bit                    the map's first byte
  *    7        a net number is none of 1 to 180                             its byte
  *    8        bytes are left over                                          the first
  *    9        a net has one pin                                            the smallest such net
  *    10       the wiring buffer is shorter than n * w * k                  the length needed
- *    11       a count is out of range, or w is not the box's own           0
+ *    11       n is none of 1 to 90, w none of 1 to 90 (of 1 to 157 for a   0
+ *             two-layer channel and in a layer view) or not the box's own,
+ *             or k none of 1 to 255
  *    12       the wiring's length is not n * w * k                         the right length
  *    13       the scratch is shorter than n * w * k                        the length needed
  *    14       a point of the wiring holds no net of the ticket             the first such point, in buffer order
  *    15       a net is not in one piece                                    the smallest such net
  *    16       the layer is none of 1 to k                                  that layer
+ *    17       a two-layer channel is solid: every place is filled, every   0
+ *             net has one north and one south pin, and some net's are in
+ *             different columns, so no width has a legal wiring
  */
 #ifndef POZQABEN_H
 #define POZQABEN_H
@@ -48,7 +54,7 @@ enum {
 };
 
 /* A ticket's kind. */
-enum { POZQABEN_ROW = 1, POZQABEN_CHANNEL = 2, POZQABEN_BOX = 3 };
+enum { POZQABEN_ROW = 1, POZQABEN_CHANNEL = 2, POZQABEN_BOX = 3, POZQABEN_TWO_LAYER = 4 };
 
 /* A ticket that is not refused has no more bytes, and one byte more than this of any bytes tells how they are read. */
 enum { POZQABEN_LONGEST_TICKET = 412 };
@@ -56,13 +62,15 @@ enum { POZQABEN_LONGEST_TICKET = 412 };
 /* number, place, kind, n, byte 2, nets */
 bool pozqaben_read(const uint8_t *ticket, size_t ticket_length, uint64_t *answer, size_t answer_length);
 
-/* number, place, kind, n, w, nets, across, up, layers, floor; w is the box's own, or the tracks that lay uses; up and
- * floor are 0 for rows and channels */
+/* number, place, kind, n, w, nets, across, up, layers, floor; w is the box's own, or the tracks that lay uses for a row
+ * or channel, and 0 for a two-layer channel, whose layers are 2, also where it is solid; up and floor are 0 but for
+ * boxes */
 bool pozqaben_survey(const uint8_t *ticket, size_t ticket_length, uint64_t *answer, size_t answer_length);
 
 /* number, place, kind, n, w, k, first, nets, across, up, floor; first is 1 where layer 1 is horizontal.
  * The wiring holds point (i, j, l), counted from 1, at ((l - 1) * w + (j - 1)) * n + i - 1. A refusal alters no byte of
- * it; bytes past n * w * k are untouched. */
+ * it; bytes past n * w * k are untouched. How long a buffer a ticket needs is the place of refusal 10, for whichever
+ * shorter one; a two-layer channel has 4 * w <= 7 * n and k = 2. */
 bool pozqaben_lay(const uint8_t *ticket, size_t ticket_length, uint8_t *wiring, size_t wiring_length, uint64_t *answer,
                   size_t answer_length);
 

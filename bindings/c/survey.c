@@ -16,6 +16,10 @@ static void print_trunks(const char *name, const uint64_t *a) {
            (int)a[8]);
 }
 
+static void print_two_layer(const uint64_t *a) {
+    printf("two-layer length %d nets %d across %d layers %d\n", (int)a[3], (int)a[5], (int)a[6], (int)a[8]);
+}
+
 int main(void) {
     uint8_t ticket[POZQABEN_LONGEST_TICKET + 1];
     size_t length = fread(ticket, 1, sizeof ticket, stdin);
@@ -35,6 +39,9 @@ int main(void) {
         return 0;
     case POZQABEN_BOX:
         print_box(answer);
+        return 0;
+    case POZQABEN_TWO_LAYER:
+        print_two_layer(answer);
         return 0;
     }
     return 1;

@@ -21,8 +21,10 @@ pub use refusal::Refusal;
 
 /// The most places of a side: n, and the width of a box.
 pub const LONGEST_SIDE: usize = 90;
-/// The most tracks of a wiring that `check` and `layer_view` take.
-pub const WIDEST_GRID: usize = 90;
+/// The most tracks of a row's or a channel's wiring that `check` takes.
+pub const WIDEST_CHANNEL: usize = 90;
+/// The most tracks that it takes of a two-layer channel's, and `layer_view` of any.
+pub const WIDEST_GRID: usize = 157;
 /// The most layers of a wiring that they take.
 pub const MOST_LAYERS: usize = 255;
 /// The most trunk layers of a row or a channel.
@@ -37,6 +39,19 @@ pub enum Kind {
     Row,
     Channel,
     Box,
+    /// A channel on two layers, at its drawn length.
+    TwoLayer,
+}
+
+impl Kind {
+    /// The most tracks of a wiring of this kind that `check` takes; a box's are its own.
+    pub const fn widest(self) -> usize {
+        match self {
+            Kind::Row | Kind::Channel => WIDEST_CHANNEL,
+            Kind::Box => LONGEST_SIDE,
+            Kind::TwoLayer => WIDEST_GRID,
+        }
+    }
 }
 
 /// What a good ticket says.
@@ -44,7 +59,7 @@ pub enum Kind {
 pub struct Reading {
     pub kind: Kind,
     pub n: usize,
-    /// The width of a box; otherwise the number of trunk layers.
+    /// The width of a box; otherwise the number of trunk layers, which is 1 for a two-layer channel.
     pub byte2: usize,
     pub nets: usize,
 }
@@ -54,7 +69,7 @@ pub struct Reading {
 pub struct Survey {
     pub kind: Kind,
     pub n: usize,
-    /// The width of a box, or the tracks that `lay` uses.
+    /// The width of a box, or the tracks that `lay` uses for a row or a channel; 0 for a two-layer channel.
     pub w: usize,
     pub nets: usize,
     pub across: usize,
@@ -72,6 +87,7 @@ impl fmt::Display for Survey {
             Kind::Row => write!(f, "row length {n} nets {nets} across {across} tracks {w} layers {layers}"),
             Kind::Channel => write!(f, "channel length {n} nets {nets} across {across} tracks {w} layers {layers}"),
             Kind::Box => write!(f, "box length {n} width {w} nets {nets} across {across} up {up} layers {layers} floor {floor}"),
+            Kind::TwoLayer => write!(f, "two-layer length {n} nets {nets} across {across} layers {layers}"),
         }
     }
 }
@@ -105,6 +121,7 @@ fn kind(number: usize) -> Kind {
         raw::ROW => Kind::Row,
         raw::CHANNEL => Kind::Channel,
         raw::BOX => Kind::Box,
+        raw::TWO_LAYER => Kind::TwoLayer,
         other => panic!("the library answered {other}, which is no kind"),
     }
 }
@@ -142,10 +159,14 @@ pub fn lay_into(ticket: &[u8], wiring: &mut [u8]) -> Result<Laid, Refusal> {
     Ok(Laid { kind: kind(k), n, w, k: layers, first: first == 1, nets, across, up, floor })
 }
 
-/// Lays the ticket into a buffer of its own, which is as long as the wiring.
+/// Lays the ticket into a buffer of its own, which is as long as the wiring: an empty one is refused with that length.
 pub fn lay(ticket: &[u8]) -> Result<(Laid, Vec<u8>), Refusal> {
-    let figures = survey(ticket)?;
-    let mut wiring = vec![0; figures.n * figures.w * figures.layers];
+    let length = match lay_into(ticket, &mut []) {
+        Err(Refusal { number: Refusal::SHORT_BUFFER, place }) => place,
+        Err(refusal) => return Err(refusal),
+        Ok(laid) => panic!("the library laid {laid:?} into an empty buffer"),
+    };
+    let mut wiring = vec![0; length];
     let laid = lay_into(ticket, &mut wiring)?;
     Ok((laid, wiring))
 }

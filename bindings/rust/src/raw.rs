@@ -19,6 +19,7 @@ pub const LAYER_VIEW_ENTRIES: usize = 4;
 pub const ROW: u64 = 1;
 pub const CHANNEL: u64 = 2;
 pub const BOX: u64 = 3;
+pub const TWO_LAYER: u64 = 4;
 
 extern "C" {
     /// number, place, kind, n, byte 2, nets

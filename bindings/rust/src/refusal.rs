@@ -1,10 +1,7 @@
 //! Why a call turned down what it was given.
 
-use crate::{raw, LARGEST_NET, LONGEST_SIDE, MOST_LAYERS, MOST_TRUNK_LAYERS, WIDEST_GRID};
+use crate::{raw, LARGEST_NET, LONGEST_SIDE, MOST_LAYERS, MOST_TRUNK_LAYERS, WIDEST_CHANNEL, WIDEST_GRID};
 use std::fmt;
-
-// The text of 11 names one limit for both.
-const _: () = assert!(LONGEST_SIDE == WIDEST_GRID);
 
 /// A refusal's number, and its place: a byte of the ticket, a length, a net, a point or a layer, as the number says.
 #[derive(Clone, Copy, Debug, PartialEq, Eq)]
@@ -14,29 +11,43 @@ pub struct Refusal {
 }
 
 impl Refusal {
+    /// The number of a wiring buffer that is too short; the place is the length needed.
+    pub const SHORT_BUFFER: u8 = 10;
+
     /// What the number means, with the place in it.
     pub fn meaning(&self) -> String {
         let place = self.place;
         match self.number {
             1 => format!("the ticket ends after {place} bytes, before one that is needed"),
-            2 => format!("byte 0, the kind, is none of {} (row), {} (channel) and {} (box)", raw::ROW, raw::CHANNEL, raw::BOX),
+            2 => format!(
+                "byte 0, the kind, is none of {} (row), {} (channel), {} (box) and {} (two-layer channel)",
+                raw::ROW,
+                raw::CHANNEL,
+                raw::BOX,
+                raw::TWO_LAYER
+            ),
             3 => format!("byte 1, the length n, is none of 1 to {LONGEST_SIDE}"),
             4 => format!(
                 "byte 2 is none of 1 to {LONGEST_SIDE} (the width of a box) \
-                 or of 1 to {MOST_TRUNK_LAYERS} (the trunk layers of a row or channel)"
+                 or of 1 to {MOST_TRUNK_LAYERS} (the trunk layers of a row or channel), or is not 1 (a two-layer channel)"
             ),
             5 => "byte 3, the side map, has a side that the kind has not".to_string(),
             6 => format!("the position map at byte {place} has no bit, or a spare bit"),
             7 => format!("the net number at byte {place} is none of 1 to {LARGEST_NET}"),
             8 => format!("bytes are left over from byte {place} on"),
             9 => format!("net {place} has one pin only"),
-            10 => format!("the wiring buffer is shorter than the {place} bytes that the wiring takes"),
-            11 => format!("n or w is none of 1 to {LONGEST_SIDE}, or k none of 1 to {MOST_LAYERS}, or w is not the box's own"),
+            Self::SHORT_BUFFER => format!("the wiring buffer is shorter than the {place} bytes that the wiring takes"),
+            11 => format!(
+                "n is none of 1 to {LONGEST_SIDE}, or w none of 1 to {WIDEST_CHANNEL} \
+                 (of 1 to {WIDEST_GRID} for a two-layer channel and in a layer view), or k none of 1 to {MOST_LAYERS}, \
+                 or w is not the box's own"
+            ),
             12 => format!("the wiring's length is not n * w * k, which is {place}"),
             13 => format!("the scratch is shorter than the {place} bytes that it must have"),
             14 => format!("the point at byte {place} of the wiring holds no net of the ticket"),
             15 => format!("net {place} is not in one piece"),
             16 => format!("the wiring has no layer {place}"),
+            17 => "the two-layer channel is solid, so that no width has a legal wiring on two layers".to_string(),
             other => format!("no refusal has the number {other}"),
         }
     }

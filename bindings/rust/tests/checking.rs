@@ -5,9 +5,11 @@ mod common;
 
 use common::{answered, extremes, ticket, Lent};
 use slow::judge;
-use slow::tickets::{encode, of_shape, random, Numbers, Places};
+use slow::tickets::{encode, of_shape, random, solid, two_layer, Numbers, Places};
+use slow::two_layer::is_solid;
 use slow::wirings::{case, layered, spoiled, wired, Case};
-use slow::{BOX, CHANNEL, EAST, LARGEST_NET, LONGEST_SIDE, MOST_LAYERS, MOST_TRUNK_LAYERS, NORTH, SOUTH, WEST, WIDEST_GRID};
+use slow::{widest, BOX, CHANNEL, EAST, LARGEST_NET, LONGEST_SIDE, MOST_LAYERS, MOST_TRUNK_LAYERS, NORTH, SOUTH, TWO_LAYER, WEST};
+use slow::{WIDEST_CHANNEL, WIDEST_GRID};
 
 fn same_verdict(c: &Case) -> u64 {
     let mut scratch = Lent::new(c.scratch, c.wiring.len() as u8);
@@ -48,7 +50,42 @@ fn slow_wirings() {
     let r = &mut Numbers::new(303);
     for _ in 0..6_000 {
         let t = random(r);
-        let (g, x) = slow::lay::lay(&slow::read::read(&t).expect("a good ticket"));
+        if let Ok((g, x)) = slow::lay::lay(&slow::read::read(&t).expect("a good ticket")) {
+            assert_eq!(and_spoiled(r, case(&t, g.w, g.k, g.first, x)), 0);
+        }
+    }
+}
+
+/// Of any width that Check takes: plain tracks before those that the slow router needs.
+#[test]
+fn two_layer_wirings() {
+    let r = &mut Numbers::new(313);
+    for _ in 0..1_500 {
+        let longest = r.pick(&[4, 12, LONGEST_SIDE]);
+        let n = 1 + r.below(longest);
+        let t = two_layer(r, n);
+        let ticket = slow::read::read(&t).expect("a good ticket");
+        if is_solid(&ticket) {
+            continue;
+        }
+        let needed = slow::two_layer::lay(&ticket, 0).0.w;
+        let most = WIDEST_GRID - needed;
+        for spare in [r.below(most + 1), most] {
+            let (g, x) = slow::two_layer::lay(&ticket, spare);
+            assert_eq!(and_spoiled(r, case(&t, g.w, g.k, g.first, x)), 0);
+        }
+    }
+}
+
+/// A solid one has legal wirings on three layers, those of a channel.
+#[test]
+fn two_layer_tickets_on_three_layers() {
+    let r = &mut Numbers::new(315);
+    for _ in 0..300 {
+        let n = 2 + r.below(20);
+        let t = solid(r, n);
+        let as_channel = slow::read::read(&[&[CHANNEL], &t[1..]].concat()).expect("a good ticket");
+        let (g, x) = slow::lay::lay(&as_channel).expect("a channel's wiring");
         assert_eq!(and_spoiled(r, case(&t, g.w, g.k, g.first, x)), 0);
     }
 }
@@ -87,7 +124,7 @@ fn refusals_before_the_points() {
     for _ in 0..60 {
         let c = wired(r);
         let size = c.wiring.len();
-        for w in [0, 1, c.w, WIDEST_GRID, WIDEST_GRID + 1, 256, 1 << 32, usize::MAX] {
+        for w in [0, 1, c.w, WIDEST_CHANNEL, WIDEST_CHANNEL + 1, WIDEST_GRID, WIDEST_GRID + 1, 256, 1 << 32, usize::MAX] {
             for k in [0, 1, c.k, MOST_LAYERS, MOST_LAYERS + 1, 1 << 32, usize::MAX] {
                 same_verdict(&case(&c.ticket, w, k, c.first, c.wiring.clone()));
             }
@@ -105,11 +142,24 @@ fn refusals_before_the_points() {
     }
 }
 
-/// The most points that Check takes: full lines, one of them cut, one net everywhere, noise, nothing.
+/// As many tracks as Check takes for the kind, and one more.
+#[test]
+fn two_layer_and_channel_widths() {
+    let straight = Places::from([((NORTH, 1), 3), ((SOUTH, 1), 3)]);
+    for kind in [CHANNEL, TWO_LAYER] {
+        let t = encode(kind, 1, 1, &straight);
+        for w in [WIDEST_CHANNEL, WIDEST_CHANNEL + 1, WIDEST_GRID, WIDEST_GRID + 1] {
+            let expected = if w <= widest(kind) { 0 } else { 11 };
+            assert_eq!(same_verdict(&case(&t, w, 1, false, vec![3; w])), expected, "{kind} {w}");
+        }
+    }
+}
+
+/// The most points that Check takes of a box and of a channel: full lines, one of them cut, one net everywhere, noise, nothing.
 #[test]
 fn largest_wirings() {
     let r = &mut Numbers::new(311);
-    let (n, w, k) = (LONGEST_SIDE, WIDEST_GRID, MOST_LAYERS);
+    let (n, w, k) = (LONGEST_SIDE, LONGEST_SIDE, MOST_LAYERS);
     let (area, size) = (n * w, n * w * k);
     let sides = [(NORTH, 0), (SOUTH, 0), (WEST, n), (EAST, n)];
     let pins: Places = sides.iter().flat_map(|(s, add)| (1..=n).map(move |i| ((*s, i), (i + add) as u8))).collect();
@@ -132,7 +182,34 @@ fn largest_wirings() {
     let names = nets(&few);
     same_verdict(&case(&few, w, k, true, (0..size).map(|_| r.pick(&names[..2])).collect()));
     let one: Places = (1..=n).map(|i| ((NORTH, i), 7)).collect();
+    let (w, size) = (WIDEST_CHANNEL, n * WIDEST_CHANNEL * k);
     let channel = |pins: &Places| encode(CHANNEL, n, MOST_TRUNK_LAYERS, pins);
     assert_eq!(same_verdict(&case(&channel(&one), w, k, true, vec![7; size])), 0);
     assert_eq!(same_verdict(&case(&channel(&Places::new()), w, k, true, vec![0; size])), 0);
+}
+
+/// The most points that Check takes at all: full columns, one of them cut, one net everywhere, noise, nothing.
+#[test]
+fn two_layer_largest_wirings() {
+    let r = &mut Numbers::new(317);
+    let (n, w, k) = (LONGEST_SIDE, WIDEST_GRID, MOST_LAYERS);
+    let size = n * w * k;
+    let straight: Places = [NORTH, SOUTH].into_iter().flat_map(|s| (1..=n).map(move |i| ((s, i), i as u8))).collect();
+    let t = encode(TWO_LAYER, n, 1, &straight);
+    let with = |x: Vec<u8>| case(&t, w, k, false, x);
+    let columns = layered(n, w, k, |i, _, l| if l % 2 == 1 { i as u8 } else { 0 });
+    assert_eq!(same_verdict(&with(columns.clone())), 0);
+    let mut cut = columns.clone();
+    let (south_end, north_end) = (size - n * w + n / 2, size - n + n / 2);
+    cut[south_end] = 0;
+    assert_eq!(same_verdict(&with(cut.clone())), 0);
+    cut[north_end] = 0;
+    assert_eq!(same_verdict(&with(cut)), 15);
+    let mut foreign = columns;
+    foreign[size - 1] = LARGEST_NET;
+    assert_eq!(same_verdict(&with(foreign)), 14);
+    assert_eq!(same_verdict(&with(vec![0; size])), 15);
+    same_verdict(&with((0..size).map(|_| 1 + r.below(2) as u8).collect()));
+    let one: Places = straight.into_keys().map(|place| (place, 7)).collect();
+    assert_eq!(same_verdict(&case(&encode(TWO_LAYER, n, 1, &one), w, k, true, vec![7; size])), 0);
 }

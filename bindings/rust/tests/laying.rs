@@ -4,9 +4,9 @@ mod common;
 
 use common::{answered, extremes, ticket, Lent};
 use slow::judge::{judge, Grid};
-use slow::lay::grid;
-use slow::tickets::{corner, Numbers};
-use slow::{survey, Ticket, EAST, NORTH, SOUTH, WEST};
+use slow::tickets::{corner, every_two_layer, rings, two_layer, Numbers};
+use slow::two_layer::is_solid;
+use slow::{no_kind, survey, Refusal, Ticket, BOX, CHANNEL, EAST, LONGEST_SIDE, NORTH, ROW, SOUTH, TWO_LAYER, WEST, WIDEST_GRID};
 
 fn refused(number: u8, place: usize) -> [u64; 11] {
     let mut out = [0; 11];
@@ -26,19 +26,39 @@ fn laid(t: &[u8], size: usize, salt: u8) -> ([u64; 11], Lent) {
     (answer, buffer)
 }
 
+/// The grid of a two-layer channel that is not solid. The number of tracks is Lay's own, within its bound: it is found by the
+/// length that an empty buffer is refused with.
+fn two_layer_grid(t: &Ticket, bytes: &[u8]) -> Grid {
+    let length = laid(bytes, 0, 0).0[1] as usize;
+    let g = Grid { n: t.n, w: length / (2 * t.n), k: 2, first: false };
+    assert!(1 <= g.w && 4 * g.w <= 7 * g.n, "a buffer of {length} bytes {bytes:?}");
+    g
+}
+
+/// The grid that Lay uses, or its refusal.
+fn grid(t: &Ticket, bytes: &[u8]) -> Result<Grid, Refusal> {
+    match t.kind {
+        ROW | CHANNEL | BOX => Ok(slow::lay::grid(t).expect("the documents give it")),
+        TWO_LAYER if is_solid(t) => Err(Refusal(17, 0)),
+        TWO_LAYER => Ok(two_layer_grid(t, bytes)),
+        other => no_kind(other),
+    }
+}
+
 fn lays_well(r: &mut Numbers, bytes: &[u8]) {
     let salt = r.below(256) as u8;
-    let t = match slow::read::read(bytes) {
-        Ok(t) => t,
-        Err(slow::Refusal(number, place)) => {
-            let (answer, buffer) = laid(bytes, r.below(200), salt);
-            assert_eq!(answer, refused(number, place), "{bytes:?}");
-            assert!(buffer.kept_past(0), "a refusal alters nothing {bytes:?}");
+    let (t, g) = match slow::read::read(bytes).and_then(|t| grid(&t, bytes).map(|g| (t, g))) {
+        Ok(good) => good,
+        Err(Refusal(number, place)) => {
+            for size in [0, r.below(200), r.below(2 * LONGEST_SIDE * WIDEST_GRID)] {
+                let (answer, buffer) = laid(bytes, size, salt);
+                assert_eq!(answer, refused(number, place), "{bytes:?}");
+                assert!(buffer.kept_past(0), "a refusal alters nothing {bytes:?}");
+            }
             return;
         }
     };
-    let g = grid(&t);
-    let more = r.below(50);
+    let more = r.below(50 + 4 * t.n);
     for size in [g.size(), g.size() + more] {
         let (answer, buffer) = laid(bytes, size, salt);
         assert_eq!(answer, expected(&t, g), "{bytes:?}");
@@ -47,7 +67,7 @@ fn lays_well(r: &mut Numbers, bytes: &[u8]) {
         assert_eq!(judge(g, &t.pins, x), Ok(()), "{bytes:?}");
         assert_eq!(pozqaben::check(bytes, g.w, g.k, g.first, x), Ok(()), "{bytes:?}");
     }
-    for size in [g.size() - 1, r.below(g.size())] {
+    for size in [0, g.size() - 1, r.below(g.size())] {
         let (answer, buffer) = laid(bytes, size, salt);
         assert_eq!(answer, refused(10, g.size()), "{bytes:?}");
         assert!(buffer.kept_past(0), "a short buffer {bytes:?}");
@@ -80,5 +100,34 @@ fn corners() {
                 lays_well(r, &t);
             }
         }
+    }
+}
+
+/// Solid ones, nearly solid ones, full ones, straight nets, long nets.
+#[test]
+fn two_layer_tickets() {
+    let r = &mut Numbers::new(209);
+    for _ in 0..20_000 {
+        let longest = r.pick(&[4, 12, LONGEST_SIDE]);
+        let n = 1 + r.below(longest);
+        let t = two_layer(r, n);
+        lays_well(r, &t);
+    }
+}
+
+#[test]
+fn two_layer_tickets_of_small_length() {
+    let r = &mut Numbers::new(211);
+    for n in 1..=4 {
+        every_two_layer(n).iter().for_each(|t| lays_well(r, t));
+    }
+}
+
+/// Tickets that may take as many tracks as any.
+#[test]
+fn two_layer_rings() {
+    let r = &mut Numbers::new(213);
+    for n in 1..=LONGEST_SIDE {
+        lays_well(r, &rings(n));
     }
 }

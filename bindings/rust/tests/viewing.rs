@@ -1,10 +1,10 @@
-//! Layer view names the layer's own part of the wiring, or refuses, by document 01's words alone.
+//! Layer view names the layer's own part of the wiring, or refuses, by the documents' words alone.
 
 mod common;
 
 use common::answered;
 use slow::tickets::Numbers;
-use slow::{LONGEST_SIDE, MOST_LAYERS, WIDEST_GRID};
+use slow::{LONGEST_SIDE, MOST_LAYERS, WIDEST_CHANNEL, WIDEST_GRID};
 
 fn expected(length: usize, n: usize, w: usize, k: usize, layer: usize) -> [u64; 4] {
     if !(1..=LONGEST_SIDE).contains(&n) || !(1..=WIDEST_GRID).contains(&w) || !(1..=MOST_LAYERS).contains(&k) {
@@ -58,7 +58,8 @@ fn counts_in_and_out_of_range() {
     let r = &mut Numbers::new(401);
     let layers = 16;
     let x = vec![9; LONGEST_SIDE * WIDEST_GRID * layers];
-    let odd = [0, 1, 2, WIDEST_GRID, WIDEST_GRID + 1, MOST_LAYERS, MOST_LAYERS + 1, 1 << 16, 1 << 32, 1 << 63, usize::MAX];
+    let limits = [LONGEST_SIDE, LONGEST_SIDE + 1, WIDEST_CHANNEL + 1, WIDEST_GRID, WIDEST_GRID + 1, MOST_LAYERS, MOST_LAYERS + 1];
+    let odd = [&limits[..], &[0, 1, 2, 1 << 16, 1 << 32, 1 << 63, usize::MAX]].concat();
     for _ in 0..20_000 {
         let mut count = |top: usize| if r.below(8) == 0 { r.pick(&odd) } else { 1 + r.below(top) };
         let (n, w, k, layer) = (count(LONGEST_SIDE), count(WIDEST_GRID), count(layers), count(layers + 1));

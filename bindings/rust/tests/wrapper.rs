@@ -1,7 +1,8 @@
 //! The safe wrapper's typed answers, and what its refusals say.
 
 use pozqaben::{check, check_with, lay, lay_into, layer_view, read, survey, Kind, Laid, Reading, Refusal, Survey};
-use slow::tickets::DOCUMENT;
+use slow::tickets::{rings, DOCUMENT};
+use slow::{widest, BOX, CHANNEL, ROW, TWO_LAYER};
 use std::fmt::Debug;
 
 fn document(name: &str) -> &'static [u8] {
@@ -26,8 +27,39 @@ fn typed_answers() {
 }
 
 #[test]
+fn two_layer_answers() {
+    let t = rings(4); // north 1 2 1 2, south 2 1 2 1
+    assert_eq!(read(&t), Ok(Reading { kind: Kind::TwoLayer, n: 4, byte2: 1, nets: 2 }));
+    let figures = Survey { kind: Kind::TwoLayer, n: 4, w: 0, nets: 2, across: 2, up: 0, layers: 2, floor: 0 };
+    assert_eq!(survey(&t), Ok(figures));
+    let (laid, wiring) = lay(&t).unwrap();
+    assert_eq!(laid, Laid { kind: Kind::TwoLayer, n: 4, w: laid.w, k: 2, first: false, nets: 2, across: 2, up: 0, floor: 0 });
+    assert_eq!(laid.size(), wiring.len());
+    assert_eq!(check(&t, laid.w, 2, false, &wiring), Ok(()));
+}
+
+#[test]
+fn two_layer_line() {
+    let line = survey(&rings(4)).unwrap().to_string();
+    assert_eq!(line, "two-layer length 4 nets 2 across 2 layers 2");
+}
+
+/// North 1 2, south 2 1: surveyed, and refused by `lay` whatever the buffer.
+#[test]
+fn two_layer_solid() {
+    let solid = [4, 2, 1, 3, 3, 1, 2, 3, 2, 1];
+    assert_eq!(survey(&solid).unwrap().to_string(), "two-layer length 2 nets 2 across 2 layers 2");
+    let text = "refused 17 at 0: the two-layer channel is solid, so that no width has a legal wiring on two layers";
+    say(lay(&solid), text);
+    say(lay_into(&solid, &mut []), text);
+    say(lay_into(&solid, &mut [0; 1000]), text);
+}
+
+#[test]
 fn limits_of_the_document() {
     assert_eq!((pozqaben::LONGEST_SIDE, pozqaben::WIDEST_GRID), (slow::LONGEST_SIDE, slow::WIDEST_GRID));
+    let kinds = [(Kind::Row, ROW), (Kind::Channel, CHANNEL), (Kind::Box, BOX), (Kind::TwoLayer, TWO_LAYER)];
+    kinds.iter().for_each(|(kind, number)| assert_eq!(kind.widest(), widest(*number), "{kind:?}"));
     assert_eq!((pozqaben::MOST_LAYERS, pozqaben::MOST_TRUNK_LAYERS), (slow::MOST_LAYERS, slow::MOST_TRUNK_LAYERS));
     assert_eq!((pozqaben::LARGEST_NET, pozqaben::LONGEST_TICKET), (slow::LARGEST_NET, slow::LONGEST_TICKET));
 }
@@ -48,11 +80,12 @@ fn say<T: Debug>(answer: Result<T, Refusal>, text: &str) {
 #[test]
 fn refused_tickets() {
     say(read(document("T1")), "refused 1 at 6: the ticket ends after 6 bytes, before one that is needed");
-    say(read(&[0, 1, 1, 0]), "refused 2 at 0: byte 0, the kind, is none of 1 (row), 2 (channel) and 3 (box)");
+    say(read(&[0, 1, 1, 0]), "refused 2 at 0: byte 0, the kind, is none of 1 (row), 2 (channel), 3 (box) and 4 (two-layer channel)");
     say(read(document("T4")), "refused 3 at 1: byte 1, the length n, is none of 1 to 90");
     say(
         read(&[1, 1, 9, 0]),
-        "refused 4 at 2: byte 2 is none of 1 to 90 (the width of a box) or of 1 to 8 (the trunk layers of a row or channel)",
+        "refused 4 at 2: byte 2 is none of 1 to 90 (the width of a box) or of 1 to 8 (the trunk layers of a row or channel), \
+         or is not 1 (a two-layer channel)",
     );
     say(read(&[1, 1, 1, 2]), "refused 5 at 3: byte 3, the side map, has a side that the kind has not");
     say(read(document("T3")), "refused 6 at 4: the position map at byte 4 has no bit, or a spare bit");
@@ -65,7 +98,11 @@ fn refused_tickets() {
 fn refused_buffers_and_wirings() {
     let row = [1, 2, 1, 1, 3, 1, 1];
     say(lay_into(&row, &mut [0; 3]), "refused 10 at 4: the wiring buffer is shorter than the 4 bytes that the wiring takes");
-    say(check(&row, 91, 2, false, &[]), "refused 11 at 0: n or w is none of 1 to 90, or k none of 1 to 255, or w is not the box's own");
+    say(
+        check(&row, 91, 2, false, &[]),
+        "refused 11 at 0: n is none of 1 to 90, or w none of 1 to 90 (of 1 to 157 for a two-layer channel and in a layer view), \
+         or k none of 1 to 255, or w is not the box's own",
+    );
     say(check(&row, 1, 2, false, &[1; 3]), "refused 12 at 4: the wiring's length is not n * w * k, which is 4");
     say(check_with(&row, 1, 2, false, &[1; 4], &mut [0; 3]), "refused 13 at 4: the scratch is shorter than the 4 bytes that it must have");
     say(check(&row, 1, 2, false, &[1, 1, 1, 2]), "refused 14 at 3: the point at byte 3 of the wiring holds no net of the ticket");

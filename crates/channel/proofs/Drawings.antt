@@ -20,7 +20,8 @@ use Rattle.trunks.specs.declared.Trunks.{Trunks}
 use Rattle.trunks.specs.Trunks.{Placed}
 use Rattle.channel_law.specs.Drawing.{Plan, Trunks as TrunksIn}
 use Rattle.channel_law.proofs.Legality.{row-legal, channel-legal}
-use Rattle.channel.specs.Given.{columnPins, Given}
+use Rattle.grid.specs.Legal.{columnPins}
+use Rattle.channel.specs.Given.{Given}
 use Rattle.channel.specs.Laying.{planOf, base, Seated, Crossed}
 use Rattle.channel.proofs.Plans.{none, spans, seated}
 

@@ -21,7 +21,7 @@ use Rattle.density.proofs.Pinned.{Pinned, Span, passes-span}
 use Rattle.trunks.specs.declared.Trunks.{Trunks}
 use Rattle.trunks.specs.Trunks.{leftOf, rightOf, placeOf, PinIn, crossing, Placed}
 use Rattle.channel_law.specs.Drawing.{Claims, Spans}
-use Rattle.channel.specs.Given.{columnPins}
+use Rattle.grid.specs.Legal.{columnPins}
 use Rattle.channel.specs.Laying.{planOf, Seated}
 
 pub none : (a : ℕ) → entry [] a ≡ 0

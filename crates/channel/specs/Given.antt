@@ -1,19 +1,15 @@
 -- What laying a row or a channel asks of the caller.
 --
---   columnPins north south         the pins of a row or a channel: none to the west and the east
 --   Given north south n w h k x    sizes that a ticket can have, pins that are nets' or empty, as many tracks as across asks of
 --                                  h trunk layers, and a buffer x that holds the grid
 use Prim.Native.Nat.{ℕ, _*_, _≤_}
-use mathlib.Core.List.{List, []}
+use mathlib.Core.List.{List}
 use lib.ListN.{length, getD}
 use Rattle.counting.specs.Counting.{In}
 use Rattle.grid.specs.Grid.{upright}
 use Rattle.terms.specs.Limits.{largestNet, longestSide, mostTrunkLayers}
-use Rattle.grid.specs.Legal.{Pins, pinsOf}
+use Rattle.grid.specs.Legal.{columnPins}
 use Rattle.density.specs.Density.{across}
-
-abbrev pub columnPins : List ℕ → List ℕ → Pins
-columnPins north south = pinsOf north south [] []
 
 pub record Given (north south : List ℕ) (n w h k : ℕ) (x : List ℕ) : Type 0 where
   pub columns : In n longestSide

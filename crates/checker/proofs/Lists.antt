@@ -9,12 +9,12 @@ use native.Mathlib.Decide.{ℕ-discrete, decLt, decLe}
 use lib.ListN.{length, set, length-set, List·getD-eq-default}
 use lib.Seq.{getD-set-same, getD-set-other}
 use Rattle.counting.specs.Counting.{In}
-use Rattle.terms.specs.Kinds.{Side, north, south, west, east, box, hasSide}
-use Rattle.terms.specs.Limits.{largestNet, longestSide}
-use Rattle.terms.proofs.Laws.{Known, is-row, is-channel, is-box, known, of-box}
+use Rattle.terms.specs.Kinds.{Side, north, south, west, east, box, byKind, hasSide, largestByte2}
+use Rattle.terms.specs.Limits.{largestNet, longestSide, widestGrid}
+use Rattle.terms.proofs.Laws.{Known, is-row, is-channel, is-box, is-two-layer, known, of-box}
 use Rattle.grid.specs.Grid.{Grid, places}
 use Rattle.grid.specs.Legal.{entry}
-use Rattle.problem.specs.Problem.{pinsIn, Good, shapeOf}
+use Rattle.problem.specs.Problem.{pinsIn, Good, shapeOf, widthOf}
 use Rattle.problem.specs.declared.Pins.{Pins as TicketPins}
 use Rattle.problem.specs.declared.Problem.{Problem}
 use Rattle.sweep.specs.Marks.{at}
@@ -48,9 +48,10 @@ pub putting-end : (list side r : List ℕ) (from i : ℕ) → i ≡ longestSide 
 putting-end list side r from i e g =
     record { size = g .size; inside = λ t h. g .done t (omega arith); outside = λ b o. g .rest b (⊎-elim inl (λ l. inr (omega arith)) o) }
 
-pub pin-list : (pins : TicketPins) (l₀ l₁ l₂ l₃ r : List ℕ) → length l₀ ≡ pinPlaces → Put l₀ (pins .north) l₁ 0 → Put l₁ (pins .south) l₂ southStart
+pub pin-list : (pins : TicketPins) (l₀ l₁ l₂ l₃ r : List ℕ) → length l₀ ≡ pinPlaces → ((b : ℕ) → at l₀ b ≡ 0)
+    → Put l₀ (pins .north) l₁ 0 → Put l₁ (pins .south) l₂ southStart
     → Put l₂ (pins .west) l₃ westStart → Put l₃ (pins .east) r eastStart → PinList pins r
-pin-list pins l₀ l₁ l₂ l₃ r e a b c d =
+pin-list pins l₀ l₁ l₂ l₃ r e blank a b c d =
     record {
       size = omega (arith, a .size, b .size, c .size, d .size);
       north = λ i h. d .outside i (inl (omega arith)) ∙ c .outside i (inl (omega arith)) ∙ b .outside i (inl (omega arith)) ∙ ap (at l₁) (omega arith)
@@ -58,7 +59,13 @@ pin-list pins l₀ l₁ l₂ l₃ r e a b c d =
       south = λ i h. d .outside (southStart + i) (inl (omega arith)) ∙ c .outside (southStart + i) (inl (omega arith)) ∙ b .inside i h;
       west = λ i h. d .outside (westStart + i) (inl (omega arith)) ∙ c .inside i h;
       east = d .inside;
+      west-past = λ i h k. d .outside (westStart + i) (inl (omega arith)) ∙ below (westStart + i) (omega arith);
+      east-past = λ i h k. d .outside (eastStart + i) (inr (omega arith)) ∙ below (eastStart + i) (omega arith);
     }
+  where
+    -- past the west side's own places nothing was put before the east side
+    below : (i : ℕ) → westStart + longestSide ≤ i → at l₃ i ≡ 0
+    below i h = c .outside i (inr h) ∙ b .outside i (inr (omega arith)) ∙ a .outside i (inr (omega arith)) ∙ blank i
 
 -- ---- the grid's pins
 
@@ -66,8 +73,15 @@ entry-at : (l : List ℕ) (a : ℕ) → 1 ≤ a → entry l a ≡ at l (a - 1)
 entry-at l zero h = absurd (omega arith)
 entry-at l (suc a) h = ap (at l) (omega arith)
 
+-- the places that the list has for a side
+abbrev room : Side → ℕ
+room north = longestSide
+room south = longestSide
+room west = widestGrid
+room east = widestGrid
+
 -- each place of the list is a place of a side
-side-of : (b : ℕ) → b < pinPlaces → (s : Side) × (a : ℕ) × (1 ≤ a) × (a ≤ longestSide) × (pinAt s a ≡ b)
+side-of : (b : ℕ) → b < pinPlaces → (s : Side) × (a : ℕ) × (1 ≤ a) × (a ≤ room s) × (pinAt s a ≡ b)
 side-of b h =
     elim (decLt b southStart) [
       | yes l ↦ (north, b + 1, omega arith, omega arith, omega arith)
@@ -81,11 +95,26 @@ side-of b h =
     ]
 
 module _ (q : Problem) (good : Good q) (list : List ℕ) (l : PinList (q .pins) list) where
-  there : (s : Side) (a : ℕ) → 1 ≤ a → a ≤ longestSide → pinsIn (q .pins) s a ≡ at list (pinAt s a)
+  narrow : widthOf q ≤ longestSide
+  narrow = by-kind (known (q .kind) (good .kind)) (good .byte2)
+    where
+      by-kind : {kind b : ℕ} → Known kind → In b (largestByte2 kind) → byKind kind 1 1 1 b 1 ≤ longestSide
+      by-kind is-row h = omega arith
+      by-kind is-channel h = omega arith
+      by-kind is-box h = h .1
+      by-kind is-two-layer h = omega arith
+
+  there : (s : Side) (a : ℕ) → 1 ≤ a → a ≤ room s → pinsIn (q .pins) s a ≡ at list (pinAt s a)
   there north a h i = entry-at (q .pins .north) a h ∙ sym (l .north (a - 1) (omega arith))
   there south a h i = entry-at (q .pins .south) a h ∙ sym (l .south (a - 1) (omega arith))
-  there west a h i = entry-at (q .pins .west) a h ∙ sym (l .west (a - 1) (omega arith))
-  there east a h i = entry-at (q .pins .east) a h ∙ sym (l .east (a - 1) (omega arith))
+  there west a h i = elim (decLe a longestSide) [
+    | yes o ↦ entry-at (q .pins .west) a h ∙ sym (l .west (a - 1) (omega arith))
+    | no o ↦ good .ends west a (omega (arith, narrow)) ∙ sym (l .west-past (a - 1) (omega arith) (omega arith))
+  ]
+  there east a h i = elim (decLe a longestSide) [
+    | yes o ↦ entry-at (q .pins .east) a h ∙ sym (l .east (a - 1) (omega arith))
+    | no o ↦ good .ends east a (omega (arith, narrow)) ∙ sym (l .east-past (a - 1) (omega arith) (omega arith))
+  ]
 
   past : (b : ℕ) → pinPlaces ≤ b → at list b ≡ 0
   past b h = List·getD-eq-default list 0 (omega (arith, l .size))
@@ -97,11 +126,11 @@ module _ (q : Problem) (good : Good q) (list : List ℕ) (l : PinList (q .pins) 
         | no h ↦ omega (arith, past b (omega arith))
       ]
 
-  module _ (g : Grid) (n : g .n ≡ q .n .0) (tracks : In (g .w) longestSide) (own : q .kind ≡ box → g .w ≡ q .byte2) where
+  module _ (g : Grid) (n : g .n ≡ q .n .0) (tracks : In (g .w) widestGrid) (own : q .kind ≡ box → g .w ≡ q .byte2) where
     ends : (s : Side) → places g s ≡ places (shapeOf q) s → (a : ℕ) → 1 ≤ a → pinsIn (q .pins) s a ≢ 0 → In a (places g s)
     ends s e a h ne = elim (decLe a (places g s)) [ yes i ↦ (h, i) | no i ↦ absurd (ne (good .ends s a (omega arith))) ]
 
-    -- west and east have the box's own places, and are bare in a row and a channel
+    -- west and east have the box's own places, and are bare in a row, a channel and a two-layer channel
     upper : {k : ℕ} (s : Side) → Known k → q .kind ≡ k → (hasSide (q .kind) s ≡ false) ⊎ (places g s ≡ places (shapeOf q) s)
     upper north k e = inr n
     upper south k e = inr n
@@ -109,13 +138,15 @@ module _ (q : Problem) (good : Good q) (list : List ℕ) (l : PinList (q .pins) 
     upper east is-row e = inl (ap (λ (k : ℕ). hasSide k east) e)
     upper west is-channel e = inl (ap (λ (k : ℕ). hasSide k west) e)
     upper east is-channel e = inl (ap (λ (k : ℕ). hasSide k east) e)
-    upper west is-box e = inr (own e ∙ sym (of-box (q .kind) 1 1 1 (q .byte2) e))
-    upper east is-box e = inr (own e ∙ sym (of-box (q .kind) 1 1 1 (q .byte2) e))
+    upper west is-two-layer e = inl (ap (λ (k : ℕ). hasSide k west) e)
+    upper east is-two-layer e = inl (ap (λ (k : ℕ). hasSide k east) e)
+    upper west is-box e = inr (own e ∙ sym (of-box (q .kind) 1 1 1 (q .byte2) 1 e))
+    upper east is-box e = inr (own e ∙ sym (of-box (q .kind) 1 1 1 (q .byte2) 1 e))
 
     in-side : (s : Side) (a : ℕ) → 1 ≤ a → pinsIn (q .pins) s a ≢ 0 → In a (places g s)
     in-side s a h ne = ⊎-elim (λ b. absurd (ne (good .bare s b a))) (λ e. ends s e a h ne) (upper s (known (q .kind) (good .kind)) refl)
 
-    bound : (s : Side) → places g s ≤ longestSide
+    bound : (s : Side) → places g s ≤ room s
     bound north = omega (arith, n, good .columns)
     bound south = omega (arith, n, good .columns)
     bound west = tracks .1

@@ -11,7 +11,7 @@ use lib.Dec.{eqb, leb}
 use lib.ListN.{length}
 use Rattle.counting.specs.Counting.{In}
 use Rattle.terms.specs.Kinds.{box, hasOwnWidth, widest}
-use Rattle.terms.proofs.Laws.{within-in, passed, boxes-only, Known, is-row, is-channel, is-box, known}
+use Rattle.terms.proofs.Laws.{within-in, passed, boxes-only, Known, is-row, is-channel, is-box, is-two-layer, known}
 use Rattle.terms.specs.Limits.{widestGrid, mostLayers, within}
 use Rattle.terms.specs.declared.Refusal.{Refusal}
 use Rattle.terms.specs.Refusals.{refusal}
@@ -26,9 +26,10 @@ use Rattle.checker.specs.Marking.{PinList, Judges}
 use Rattle.checker.proofs.Lists.{listed}
 
 small : {kind w : ℕ} → Known kind → In w (widest kind) → In w widestGrid
-small is-row h = h
-small is-channel h = h
-small is-box h = h
+small is-row h = omega arith
+small is-channel h = omega arith
+small is-box h = omega arith
+small is-two-layer h = h
 
 pub counts : (q : Problem) (w k : ℕ) → widthFits q w && within k mostLayers ≡ true → Known (q .kind) → (w ≤ widestGrid) × (k ≤ mostLayers)
 counts q w k e known =

@@ -1,6 +1,7 @@
 -- Check: what it answers, for every input.
 --
---   widthFits q w             w is one that the ticket's wirings have; "w outside 1 to 90, or not a box's own w"
+--   widthFits q w             w is one that the ticket's wirings have; "w outside 1 to 90, or not a box's own w"; "157 for this
+--                             kind", two-layer channels (document 02, job 1)
 --   checkRefusal t w k x y    the refusals before the wiring is looked at, by the reading t, the wiring's length x and the scratch's
 --                             length y: "Those of Read; 11, w outside 1 to 90, or not a box's own w, or k outside 1 to 255 (0); 12,
 --                             wiring length not n × w × k (the right length); 13, scratch shorter than that (the length needed)"

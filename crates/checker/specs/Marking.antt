@@ -1,7 +1,7 @@
 -- What the inner functions of Check find, by index. Cited by their contracts alone: Check's own promise is in Check.antt.
 --
 --   noNet                 the largest byte, which is no net's number
---   PinList pins list     the list has the four sides' places
+--   PinList pins list     the list has the four sides' places, and nothing where a grid is wider than any ticket
 --   Listed g p list       the list has the pins p of the grid, each at its place, and no others
 --   Put list side r from  r is the list with a side's places from `from` on
 --   Holder p top v        one of the first top entries of the pin list holds v
@@ -24,7 +24,7 @@ use mathlib.Core.List.{List}
 use lib.ListN.{length}
 use Rattle.counting.specs.Counting.{In}
 use Rattle.terms.specs.Kinds.{Side}
-use Rattle.terms.specs.Limits.{longestSide, largestNet, byteValues}
+use Rattle.terms.specs.Limits.{longestSide, widestGrid, largestNet, byteValues}
 use Rattle.terms.specs.declared.Refusal.{Refusal}
 use Rattle.grid.specs.Grid.{Grid, places}
 use Rattle.grid.specs.Legal.{Pins}
@@ -42,10 +42,12 @@ pub record PinList (pins : TicketPins) (list : List ℕ) : Type 0 where
   pub south : (i : ℕ) → i < longestSide → at list (southStart + i) ≡ at (pins .south) i
   pub west : (i : ℕ) → i < longestSide → at list (westStart + i) ≡ at (pins .west) i
   pub east : (i : ℕ) → i < longestSide → at list (eastStart + i) ≡ at (pins .east) i
+  pub west-past : (i : ℕ) → longestSide ≤ i → i < widestGrid → at list (westStart + i) ≡ 0
+  pub east-past : (i : ℕ) → longestSide ≤ i → i < widestGrid → at list (eastStart + i) ≡ 0
 
 pub record Listed (g : Grid) (p : Pins) (list : List ℕ) : Type 0 where
   pub long : In (g .n) longestSide
-  pub wide : In (g .w) longestSide
+  pub wide : In (g .w) widestGrid
   pub there : (s : Side) (a : ℕ) → In a (places g s) → p s a ≡ at list (pinAt s a)
   pub back : (b : ℕ) → at list b ≢ 0 → (s : Side) × (a : ℕ) × In a (places g s) × (pinAt s a ≡ b)
   pub small : (b : ℕ) → at list b ≤ largestNet

@@ -20,7 +20,7 @@ use Rattle.problem.specs.declared.Problem.{Problem}
 use Rattle.problem.specs.Problem.{Good, pinsIn, shapeOf, widthOf}
 use Rattle.figures.specs.declared.Figures.{Figures}
 use Rattle.figures.specs.Figures.{acrossOf, tracksOf, figuresOf}
-use Rattle.terms.proofs.Laws.{Known, is-row, is-channel, is-box, known}
+use Rattle.terms.proofs.Laws.{Known, is-row, is-channel, is-box, is-two-layer, known}
 
 pub across-le : (g : Grid) (p : Pins) → across g p ≤ largestNet
 unfolding across
@@ -37,31 +37,33 @@ byte2-in q g = small (known (q .kind) (g .kind)) (g .byte2)
     small is-row h = omega arith
     small is-channel h = omega arith
     small is-box h = h
+    small is-two-layer h = omega arith
 
 pub width-in : (q : Problem) → Good q → In (widthOf q) longestSide
 width-in q g = small (known (q .kind) (g .kind)) (g .byte2)
   where
-    small : {kind b : ℕ} → Known kind → In b (largestByte2 kind) → In (byKind kind 1 1 1 b) longestSide
+    small : {kind b : ℕ} → Known kind → In b (largestByte2 kind) → In (byKind kind 1 1 1 b 1) longestSide
     small is-row h = omega arith
     small is-channel h = omega arith
     small is-box h = h
+    small is-two-layer h = omega arith
 
 -- the figures from what the functions give: b is byte 2, w the width, a across, u the sides exchanged
-module _ (q : Problem) (good : Good q) {b w a u t l f x y : ℕ} (long : ℕ) (e-b : b ≡ q .byte2) (e-n : long ≡ q .n .0) (e-w : w ≡ byKind (q .kind) 1 1 1 b)
+module _ (q : Problem) (good : Good q) {b w a u t l f x y : ℕ} (long : ℕ) (e-b : b ≡ q .byte2) (e-n : long ≡ q .n .0) (e-w : w ≡ byKind (q .kind) 1 1 1 b 1)
     (e-a : a ≡ across (upright long w 1) (pinsIn (q .pins)))
-    (e-u : u ≡ byKind (q .kind) 0 0 0 (across (upright w long 1) (pinsOf (q .pins .east) (q .pins .west) (q .pins .south) (q .pins .north))))
+    (e-u : u ≡ byKind (q .kind) 0 0 0 (across (upright w long 1) (pinsOf (q .pins .east) (q .pins .west) (q .pins .south) (q .pins .north))) 0)
     (e-t : t ≡ tracksFor b a) (e-l : l ≡ layersFor (q .kind) (q .n .0) b) (e-f : f ≡ floor (ceil a w) (ceil u long))
-    (e-x : x ≡ byKind (q .kind) 0 t t b) (e-y : y ≡ byKind (q .kind) 0 0 0 f) where
+    (e-x : x ≡ byKind (q .kind) 0 t t b 0) (e-y : y ≡ byKind (q .kind) 0 0 0 f 0) where
   same-w : w ≡ widthOf q
-  same-w = e-w ∙ ap (byKind (q .kind) 1 1 1) e-b
+  same-w = e-w ∙ ap (λ (v : ℕ). byKind (q .kind) 1 1 1 v 1) e-b
 
   same-a : a ≡ acrossOf q
   same-a = e-a ∙ ap₂ (λ (m v : ℕ). across (upright m v 1) (pinsIn (q .pins))) e-n same-w
 
-  same-u : u ≡ byKind (q .kind) 0 0 0 (up (shapeOf q) (pinsIn (q .pins)))
+  same-u : u ≡ byKind (q .kind) 0 0 0 (up (shapeOf q) (pinsIn (q .pins))) 0
   same-u =
       e-u
-      ∙ ap (byKind (q .kind) 0 0 0) (
+      ∙ ap (λ (v : ℕ). byKind (q .kind) 0 0 0 v 0) (
       ap₂ (λ (v m : ℕ). across (upright v m 1) (pinsOf (q .pins .east) (q .pins .west) (q .pins .south) (q .pins .north))) same-w e-n
       ∙ sym (up-by (q .pins .north) (q .pins .south) (q .pins .west) (q .pins .east) (q .n .0) (widthOf q)))
 
@@ -69,20 +71,21 @@ module _ (q : Problem) (good : Good q) {b w a u t l f x y : ℕ} (long : ℕ) (e
   same-t = e-t ∙ ap₂ tracksFor e-b same-a
 
   -- a kind without up has no floor
-  floors : {kind : ℕ} → Known kind → (v p m : ℕ) → byKind kind 0 0 0 (floor (ceil v m) (ceil (byKind kind 0 0 0 p) (q .n .0)))
-      ≡ byKind kind 0 0 0 (floor (ceil v m) (ceil p (q .n .0)))
+  floors : {kind : ℕ} → Known kind → (v p m : ℕ) → byKind kind 0 0 0 (floor (ceil v m) (ceil (byKind kind 0 0 0 p 0) (q .n .0))) 0
+      ≡ byKind kind 0 0 0 (floor (ceil v m) (ceil p (q .n .0))) 0
   floors is-row v p m = refl
   floors is-channel v p m = refl
   floors is-box v p m = refl
+  floors is-two-layer v p m = refl
 
-  same-y : y ≡ byKind (q .kind) 0 0 0 (floorOf (shapeOf q) (pinsIn (q .pins)))
+  same-y : y ≡ byKind (q .kind) 0 0 0 (floorOf (shapeOf q) (pinsIn (q .pins))) 0
   same-y =
-      e-y ∙ ap (byKind (q .kind) 0 0 0) (e-f ∙ (λ i. floor (ceil (same-a i) (same-w i)) (ceil (same-u i) (e-n i))))
+      e-y ∙ ap (λ (v : ℕ). byKind (q .kind) 0 0 0 v 0) (e-f ∙ (λ i. floor (ceil (same-a i) (same-w i)) (ceil (same-u i) (e-n i))))
       ∙ floors (known (q .kind) (good .kind)) (acrossOf q) (up (shapeOf q) (pinsIn (q .pins))) (widthOf q)
 
   pub figures-are : record { w = record { 0 = x }; across = a; up = u; layers = record { 0 = l }; floor = record { 0 = y } } ≡ figuresOf q
   unfolding figuresOf
   figures-are =
-      let same-x : x ≡ byKind (q .kind) 0 (tracksOf q) (tracksOf q) (q .byte2) = e-x ∙ ap₂ (λ (v p : ℕ). byKind (q .kind) 0 v v p) same-t e-b in
+      let same-x : x ≡ byKind (q .kind) 0 (tracksOf q) (tracksOf q) (q .byte2) 0 = e-x ∙ ap₂ (λ (v p : ℕ). byKind (q .kind) 0 v v p 0) same-t e-b in
       let same-l : l ≡ layersFor (q .kind) (q .n .0) (q .byte2) = e-l ∙ ap (layersFor (q .kind) (q .n .0)) e-b in
       λ i. record { w = record { 0 = same-x i }; across = same-a i; up = same-u i; layers = record { 0 = same-l i }; floor = record { 0 = same-y i } }

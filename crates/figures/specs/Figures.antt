@@ -1,6 +1,7 @@
 -- The figures of a problem, by kind.
 --
---   figuresOf q   w: for a row and a channel "the larger of 1 and across/h rounded up", for a box its own; across; up, and the floor with
+--   figuresOf q   w: for a row and a channel "the larger of 1 and across/h rounded up", for a box its own, for a two-layer channel 0
+--                 ("Survey prints `two-layer` and no tracks"); across; up, and the floor with
 --                 "a = across/w rounded up and b = up/n rounded up": "Up and the floor belong to boxes only"; the layers that Lay uses
 use Prim.Native.Nat.{ℕ}
 use Rattle.terms.specs.Kinds.{byKind, layersFor}
@@ -18,9 +19,9 @@ tracksOf q = tracksFor (q .byte2) (acrossOf q)
 unfoldable pub figuresOf : Problem → Figures
 figuresOf q =
     record {
-      w = record { 0 = byKind (q .kind) 0 (tracksOf q) (tracksOf q) (q .byte2) };
+      w = record { 0 = byKind (q .kind) 0 (tracksOf q) (tracksOf q) (q .byte2) 0 };
       across = acrossOf q;
-      up = byKind (q .kind) 0 0 0 (up (shapeOf q) (pinsIn (q .pins)));
+      up = byKind (q .kind) 0 0 0 (up (shapeOf q) (pinsIn (q .pins))) 0;
       layers = record { 0 = layersFor (q .kind) (q .n .0) (q .byte2) };
-      floor = record { 0 = byKind (q .kind) 0 0 0 (floorOf (shapeOf q) (pinsIn (q .pins))) };
+      floor = record { 0 = byKind (q .kind) 0 0 0 (floorOf (shapeOf q) (pinsIn (q .pins))) 0 };
     }

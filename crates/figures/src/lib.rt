@@ -185,7 +185,7 @@ fn up_for(
 ) -> usize
     requires { ⌜ (n ≤ longestSide) × (w ≤ longestSide) ⌝ }
     ensures { λ r. ⌜ (r ≡ byKind kind 0 0 0 (across (upright w n 1) (pinsOf (now (a .entry)) (now (b .entry)) (now (c .entry)) (now
-        (d .entry))))) × (r ≤ largestNet) ⌝ }
+        (d .entry)))) 0) × (r ≤ largestNet) ⌝ }
 {
     if kind == BOX {
         return density(a, b, c, d, w, n);
@@ -199,7 +199,7 @@ fn layers_for(kind: u8, n: Column, byte2: usize) -> usize
     ensures { λ r. ⌜ r ≡ layersFor kind (n .0) byte2 ⌝ }
 {
     let q = grid::quotient(n, Track(byte2));
-    by_kind(kind, 0, 2 * byte2, 2 * byte2 + 1, 2 * q + 4)
+    by_kind(kind, 0, 2 * byte2, 2 * byte2 + 1, 2 * q + 4, 2)
 }
 
 fn tracks_for(h: usize, a: usize) -> usize
@@ -240,17 +240,17 @@ pub fn figures_of(q: Problem) -> Figures
     let west = q.pins.west;
     let east = q.pins.east;
     let long = column_count(n);
-    let w = by_kind(kind, 1, 1, 1, byte2);
+    let w = by_kind(kind, 1, 1, 1, byte2, 1);
     let across = density(&north, &south, &west, &east, long, w);
     let up = up_for(kind, &east, &west, &south, &north, long, w);
     let tracks = tracks_for(byte2, across);
     let layers = layers_for(kind, n, byte2);
     let floor = floor_for(rounded_up(across, w), rounded_up(up, long));
     Figures {
-        w: Track(by_kind(kind, 0, tracks, tracks, byte2)),
+        w: Track(by_kind(kind, 0, tracks, tracks, byte2, 0)),
         across,
         up,
         layers: Layer(layers),
-        floor: Layer(by_kind(kind, 0, 0, 0, floor)),
+        floor: Layer(by_kind(kind, 0, 0, 0, floor, 0)),
     }
 }

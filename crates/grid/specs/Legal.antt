@@ -13,11 +13,12 @@
 --   wiringOf g buffer    the wiring that a buffer holds
 --   entry list a         entry a of a list, counted from 1 as places are; 0 outside
 --   pinsOf n s w e       the pins whose nets are listed, place by place, side by side
+--   columnPins n s       the same with none to the west and the east
 use Prim.Native.Nat.{ℕ, _+_, _*_, _-_, _≤_}
 use mathlib.Core.Path.{_≡_}
 use mathlib.Core.Logic.{_≢_}
 use mathlib.Core.Bool.{Bool}
-use mathlib.Core.List.{List, _∷_}
+use mathlib.Core.List.{List, [], _∷_}
 use lib.ListN.{getD}
 use Rattle.counting.specs.Counting.{count}
 use Rattle.terms.specs.Kinds.{Side, north, south, west, east, box}
@@ -71,3 +72,6 @@ pinsOf n s w e north = entry n
 pinsOf n s w e south = entry s
 pinsOf n s w e west = entry w
 pinsOf n s w e east = entry e
+
+abbrev pub columnPins : List ℕ → List ℕ → Pins
+columnPins n s = pinsOf n s [] []

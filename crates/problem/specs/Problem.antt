@@ -39,7 +39,7 @@ abbrev pub loneNet : GridPins → ℕ
 loneNet p = least (λ m. eqb (pinCount p m) 1) largestNet
 
 abbrev pub widthOf : Problem → ℕ
-widthOf q = byKind (q .kind) 1 1 1 (q .byte2)
+widthOf q = byKind (q .kind) 1 1 1 (q .byte2) 1
 
 abbrev pub shapeOf : Problem → Grid
 shapeOf q = upright (q .n .0) (widthOf q) 1

@@ -1,20 +1,23 @@
 -- From what the drawing crates promise to what Lay promises: the grid that the answer speaks of is the one that is drawn, and its tracks and floor are
 -- those that no rival beats.
 use Prim.Native.Nat.{ℕ, zero, suc, _+_, _*_, _/_, _≤_, max, min}
-use mathlib.Core.Path.{_≡_, refl, sym, ap, _∙_, subst, subst₂, fun-ext}
-use mathlib.Core.Bool.{Bool, false}
+use mathlib.Core.Path.{_≡_, refl, sym, ap, ap₂, _∙_, subst, subst₂, fun-ext}
+use mathlib.Core.Logic.{_≢_}
+use mathlib.Core.Bool.{Bool, true, false, false≢true}
 use mathlib.Core.List.{List, []}
 use native.Mathlib.Omega.{arith}
+use native.Mathlib.Decide.{ℕ-discrete}
 use native.Mathlib.Nat.{mul-comm, mul-le-mul-left, mul-le-mul-right}
 use lib.Dec.{ltb}
 use lib.ListN.{length, getD}
 use Rattle.counting.specs.Counting.{In, ceil, bit}
 use Rattle.counting.proofs.Counts.{ceil-le, round-up}
-use Rattle.terms.specs.Kinds.{Side, north, south, west, east, row, channel, box, hasSide, largestByte2, layersFor}
-use Rattle.terms.proofs.Laws.{Known, is-row, is-channel, is-box, known, Thin, thin-row, thin-channel, of-thin, of-box, no-west, no-east}
+use Rattle.terms.specs.Kinds.{Side, north, south, west, east, row, channel, box, twoLayer, isKind, hasSide, largestByte2, layersFor}
+use Rattle.terms.proofs.Laws.{Known, is-row, is-channel, is-box, is-two-layer, known}
+use Rattle.terms.proofs.Laws.{Thin, thin-row, thin-channel, of-thin, of-box, of-two-layer, two-layers-only, no-west, no-east}
 use Rattle.grid.specs.Grid.{Grid, upright}
 use Rattle.terms.specs.Limits.{longestSide, mostLayers, mostTrunkLayers}
-use Rattle.grid.specs.Legal.{Pins, Wiring, Legal, GridOf, entry}
+use Rattle.grid.specs.Legal.{Pins, Wiring, Legal, GridOf, entry, columnPins}
 use Rattle.grid.proofs.Sizes.{Sized}
 use Rattle.density.specs.Density.{across, horizontals, tracksFor, floorOf}
 use Rattle.density.proofs.Layers.{horizontals-are}
@@ -22,22 +25,25 @@ use Rattle.density.proofs.Free.{across-free}
 use Rattle.density.proofs.Bounds.{narrowest, lowest}
 use Rattle.problem.specs.declared.Problem.{Problem}
 use Rattle.problem.specs.Problem.{pinsIn, widthOf, shapeOf, Good}
+use Rattle.figures.specs.declared.Figures.{Figures}
 use Rattle.figures.specs.Figures.{acrossOf, tracksOf, figuresOf}
 use Rattle.grid.specs.Laid.{Laid}
-use Rattle.channel.specs.Given.{columnPins, Given}
+use Rattle.channel.specs.Given.{Given}
 use Rattle.switchbox.specs.Wired.{boxLayers, boxGrid, BoxPins}
-use Rattle.router.specs.Lay.{firstOf, needed, laidAnswer, laidGrid}
+use Rattle.router.specs.Lay.{firstOf, laidWidth, needed, isSolid, laidAnswer, laidGrid}
+use Rattle.two_layer_law.specs.Solid.{solid}
+use Rattle.two_layer_law.specs.Moves.{widthFor}
 use Rattle.router.proofs.Few.{across-few}
 
-abbrev sized : ℕ → ℕ → ℕ → Bool → Grid
+abbrev pub sized : ℕ → ℕ → ℕ → Bool → Grid
 sized n w k first = record { n = n; w = w; k = k; first = first }
 
-same-grid : (n : ℕ) {w w′ k k′ : ℕ} {b b′ : Bool} → w ≡ w′ → k ≡ k′ → b ≡ b′ → sized n w k b ≡ sized n w′ k′ b′
+pub same-grid : (n : ℕ) {w w′ k k′ : ℕ} {b b′ : Bool} → w ≡ w′ → k ≡ k′ → b ≡ b′ → sized n w k b ≡ sized n w′ k′ b′
 same-grid n {w} {w′} {k} {k′} {b} {b′} e f h =
     ap (λ (u : ℕ). sized n u k b) e ∙ ap (λ (u : ℕ). sized n w′ u b) f ∙ ap (λ (u : Bool). sized n w′ k′ u) h
 
 -- a wiring that is laid in the grid that the answer speaks of
-laid-in : {g h : Grid} {p : Pins} {before after : List ℕ} → g ≡ h → Laid g p before after → Laid h p before after
+pub laid-in : {g h : Grid} {p : Pins} {before after : List ℕ} → g ≡ h → Laid g p before after → Laid h p before after
 laid-in {p = p} {before = before} {after = after} e y = subst (λ (u : Grid). Laid u p before after) e y
 
 module _ (q : Problem) where
@@ -54,7 +60,7 @@ module _ (q : Problem) where
   p = pinsIn (q .pins)
 
   abbrev tracks : ℕ
-  tracks = figuresOf q .w .0
+  tracks = laidWidth q
 
   abbrev layers : ℕ
   layers = figuresOf q .layers .0
@@ -63,7 +69,7 @@ module _ (q : Problem) where
 
   thin-tracks : Thin kind → tracks ≡ tracksFor byte2 (acrossOf q)
   unfolding figuresOf
-  thin-tracks h = of-thin h 0 (tracksOf q) byte2
+  thin-tracks h = of-thin h 0 (figuresOf q .w .0) _ _ ∙ of-thin h 0 (tracksOf q) byte2 0
 
   row-layers : kind ≡ row → layers ≡ 2 * byte2
   unfolding figuresOf
@@ -75,7 +81,7 @@ module _ (q : Problem) where
 
   box-tracks : kind ≡ box → tracks ≡ byte2
   unfolding figuresOf
-  box-tracks e = of-box kind 0 (tracksOf q) (tracksOf q) byte2 e
+  box-tracks e = of-box kind 0 _ _ (figuresOf q .w .0) _ e ∙ of-box kind 0 (tracksOf q) (tracksOf q) byte2 0 e
 
   box-layers : kind ≡ box → layers ≡ boxLayers n byte2
   unfolding figuresOf
@@ -83,16 +89,61 @@ module _ (q : Problem) where
 
   box-floor : kind ≡ box → figuresOf q .floor .0 ≡ floorOf (shapeOf q) p
   unfolding figuresOf
-  box-floor e = of-box kind 0 0 0 (floorOf (shapeOf q) p) e
+  box-floor e = of-box kind 0 0 0 (floorOf (shapeOf q) p) 0 e
 
   thin-first : Thin kind → firstOf q ≡ false
-  thin-first h = of-thin h false false (ltb n byte2)
+  thin-first h = of-thin h false false (ltb n byte2) false
 
   box-first : kind ≡ box → firstOf q ≡ ltb n byte2
-  box-first e = of-box kind false false false (ltb n byte2) e
+  box-first e = of-box kind false false false (ltb n byte2) false e
 
   box-width : kind ≡ box → widthOf q ≡ byte2
-  box-width e = of-box kind 1 1 1 byte2 e
+  box-width e = of-box kind 1 1 1 byte2 1 e
+
+  -- without west and east pins the pins are those of the two sides along the columns
+  pub two-sided : ((a : ℕ) → p west a ≡ 0) → ((a : ℕ) → p east a ≡ 0) → columnPins (q .pins .north) (q .pins .south) ≡ p
+  two-sided bw be = fun-ext each
+    where
+      none : (s : ℕ) → entry [] s ≡ 0
+      none zero = refl
+      none (suc s) = refl
+
+      each : (s : Side) → columnPins (q .pins .north) (q .pins .south) s ≡ p s
+      each north = refl
+      each south = refl
+      each west = fun-ext (λ a. none a ∙ sym (bw a))
+      each east = fun-ext (λ a. none a ∙ sym (be a))
+
+  -- every kind but one has its tracks among its figures, and none of these is solid
+  pub figures-width : isKind kind ≡ true → kind ≢ twoLayer → tracks ≡ figuresOf q .w .0
+  figures-width e other = by-kind (known kind e) refl
+    where
+      by-kind : {k : ℕ} → Known k → kind ≡ k → tracks ≡ figuresOf q .w .0
+      by-kind is-row e = of-thin (subst Thin (sym e) thin-row) 0 (figuresOf q .w .0) _ _
+      by-kind is-channel e = of-thin (subst Thin (sym e) thin-channel) 0 (figuresOf q .w .0) _ _
+      by-kind is-box e = of-box kind 0 _ _ (figuresOf q .w .0) _ e
+      by-kind is-two-layer e = absurd (other e)
+
+  pub never-solid : kind ≢ twoLayer → isSolid q ≡ false
+  never-solid other = two-layers-only kind false _ other
+
+  pub solid-kind : isSolid q ≡ true → kind ≡ twoLayer
+  solid-kind e = elim (ℕ-discrete kind twoLayer) [ yes t ↦ t | no t ↦ absurd (false≢true (sym (never-solid t) ∙ e)) ]
+
+  -- ---- two-layer channels
+
+  pub two-layer-solid : kind ≡ twoLayer → isSolid q ≡ solid p n
+  two-layer-solid e = of-two-layer kind false false false false _ e
+
+  pub two-layer-tracks : kind ≡ twoLayer → tracks ≡ widthFor (p north) (p south) n
+  two-layer-tracks e = of-two-layer kind 0 _ _ _ _ e
+
+  pub two-layer-layers : kind ≡ twoLayer → layers ≡ 2
+  unfolding figuresOf
+  two-layer-layers e = ap (λ (k : ℕ). layersFor k n byte2) e
+
+  pub two-layer-first : kind ≡ twoLayer → firstOf q ≡ false
+  two-layer-first e = of-two-layer kind false _ _ _ false e
 
   module _ (good : Good q) where
     -- ---- the sizes are those of a grid that the calls take
@@ -129,32 +180,31 @@ module _ (q : Problem) where
         low : In byte2 longestSide → 1 ≤ min n byte2
         low w = omega (arith, good .columns)
 
-    pub sizes : Sized n tracks layers
-    sizes = by-kind (known kind (good .kind)) refl
+    -- what is computed from the figures is what the answer says
+    module _ (other : kind ≢ twoLayer) (f : Figures) (same : f ≡ figuresOf q) where
+      pub width-laid : f .w .0 ≡ tracks
+      width-laid = ap (λ (u : Figures). u .w .0) same ∙ sym (figures-width (good .kind) other)
+
+      pub size-needed : (size : ℕ) → size ≡ n * f .w .0 * f .layers .0 → size ≡ needed q
+      size-needed size h = h ∙ ap₂ (λ (u v : ℕ). n * u * v) width-laid (ap (λ (u : Figures). u .layers .0) same)
+
+    pub sizes : kind ≢ twoLayer → Sized n tracks layers
+    sizes other = by-kind (known kind (good .kind)) refl
       where
         by-kind : {k : ℕ} → Known k → kind ≡ k → Sized n tracks layers
         by-kind is-row e =
             let h = subst Thin (sym e) thin-row in
-            record { long = good .columns; wide = thin-size h; high = omega (arith, row-layers e, trunks h) }
+            record { long = good .columns; wide = omega (arith, thin-size h); high = omega (arith, row-layers e, trunks h) }
         by-kind is-channel e =
             let h = subst Thin (sym e) thin-channel in
-            record { long = good .columns; wide = thin-size h; high = omega (arith, channel-layers e, trunks h) }
-        by-kind is-box e = record { long = good .columns; wide = rw (box-tracks e) (width e); high = box-high e }
+            record { long = good .columns; wide = omega (arith, thin-size h); high = omega (arith, channel-layers e, trunks h) }
+        by-kind is-box e = record { long = good .columns; wide = omega (arith, box-tracks e, width e); high = box-high e }
+        by-kind is-two-layer e = absurd (other e)
 
     -- ---- rows and channels
 
     sides : Thin kind → columnPins (q .pins .north) (q .pins .south) ≡ p
-    sides h = fun-ext each
-      where
-        none : (s : ℕ) → entry [] s ≡ 0
-        none zero = refl
-        none (suc s) = refl
-
-        each : (s : Side) → columnPins (q .pins .north) (q .pins .south) s ≡ p s
-        each north = refl
-        each south = refl
-        each west = fun-ext (λ a. none a ∙ sym (bare-west h a))
-        each east = fun-ext (λ a. none a ∙ sym (bare-east h a))
+    sides h = two-sided (bare-west h) (bare-east h)
 
     fits : Thin kind → (k : ℕ) → across (upright n tracks k) (columnPins (q .pins .north) (q .pins .south)) ≤ byte2 * tracks
     unfolding tracksFor

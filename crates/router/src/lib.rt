@@ -8,15 +8,18 @@ use terms::BOX;
 use terms::CHANNEL;
 use terms::ROW;
 use terms::Refusal;
+use terms::TWO_LAYER;
 use terms::refuse;
 use terms::wide;
 ghost use mathlib.Core.Path.{_≡_};
+ghost use mathlib.Core.Logic.{_≢_};
 ghost use Prim.Native.Nat.{_≤_};
 ghost use lib.ListN.{length};
+ghost use Rattle.terms.specs.Kinds.{twoLayer};
 ghost use Rattle.problem.specs.Problem.{pinsIn, Good};
 ghost use Rattle.figures.specs.Figures.{figuresOf};
 ghost use Rattle.grid.specs.Laid.{Laid};
-ghost use Rattle.router.specs.Lay.{firstOf, needed, answered, laidAnswer, refused, laidGrid, Lays};
+ghost use Rattle.router.specs.Lay.{firstOf, laidWidth, needed, answered, laidAnswer, refused, laidGrid, Lays, Outcome};
 
 pub struct LayAnswer {
     pub refusal: Refusal,
@@ -58,12 +61,11 @@ fn first_direction(q: Problem) -> bool
     false
 }
 
-fn answered(refusal: Refusal, q: Problem, f: Figures) -> LayAnswer
-    ensures { λ r. ⌜ r ≡ answered refusal q f (firstOf q) ⌝ }
+fn answered(refusal: Refusal, q: Problem, f: Figures, w: Track) -> LayAnswer
+    ensures { λ r. ⌜ r ≡ answered refusal q f (w .0) (firstOf q) ⌝ }
 {
     let first = first_direction(q);
     let n = q.n;
-    let w = f.w;
     let k = f.layers;
     let floor = f.floor;
     LayAnswer {
@@ -80,9 +82,9 @@ fn answered(refusal: Refusal, q: Problem, f: Figures) -> LayAnswer
     }
 }
 
-// Lays a good problem into a buffer that is long enough, by its kind.
+// Lays a good problem of a row, a channel or a box into a buffer that is long enough.
 fn draw(q: Problem, w: Track, wiring: &mut [u8])
-    requires { ⌜ Good q × (w .0 ≡ figuresOf q .w .0) × (needed q ≤ length (now wiring)) ⌝ }
+    requires { ⌜ Good q × (q .kind ≢ twoLayer) × (w .0 ≡ laidWidth q) × (needed q ≤ length (now wiring)) ⌝ }
     ensures { λ _. ⌜ Laid (laidGrid (laidAnswer q)) (pinsIn (q .pins)) (now (wiring .entry)) (now (wiring .exit)) ⌝ }
 {
     let kind = q.kind;
@@ -105,9 +107,44 @@ fn draw(q: Problem, w: Track, wiring: &mut [u8])
     }
 }
 
+// A row, a channel or a box: its tracks are among its figures.
+fn lay_by_figures(q: Problem, f: Figures, wiring: &mut [u8]) -> LayAnswer
+    requires { ⌜ Good q × (q .kind ≢ twoLayer) × (f ≡ figuresOf q) ⌝ }
+    ensures { λ r. ⌜ Outcome q (now (wiring .entry)) (now (wiring .exit)) r ⌝ }
+{
+    let w = f.w;
+    let size = grid::points(q.n, w, f.layers);
+    if wiring.len() < size {
+        return refused(refuse(10, size));
+    }
+    draw(q, w, wiring);
+    answered(refuse(0, 0), q, f, w)
+}
+
+// A two-layer channel: its operations tell whether it is solid, and its tracks.
+fn lay_two_layer(q: Problem, f: Figures, wiring: &mut [u8]) -> LayAnswer
+    requires { ⌜ Good q × (q .kind ≡ twoLayer) × (f ≡ figuresOf q) ⌝ }
+    ensures { λ r. ⌜ Outcome q (now (wiring .entry)) (now (wiring .exit)) r ⌝ }
+{
+    let n = q.n;
+    let north = q.pins.north;
+    let south = q.pins.south;
+    let plan = two_layer_plan::find_plan(&north, &south, n);
+    if plan.solid {
+        return refused(refuse(17, 0));
+    }
+    let tracks = two_layer::tracks(plan);
+    let length = grid::points(n, tracks, f.layers);
+    if wiring.len() < length {
+        return refused(refuse(10, length));
+    }
+    two_layer::lay(&north, &south, n, tracks, plan, wiring);
+    answered(refuse(0, 0), q, f, tracks)
+}
+
 // Public call Lay. Refused, it alters no byte. Otherwise the buffer holds a legal wiring with the answer's counts, and no rival beats
 // its tracks (rows and channels, with as many horizontal layers) or its floor (boxes): of every legal wiring of the ticket, of any
-// size, whoever drew it.
+// size, whoever drew it. A two-layer channel is refused exactly where no two-layer wiring of it is legal.
 pub fn lay(ticket: &[u8], wiring: &mut [u8]) -> LayAnswer
     ensures { λ r. ⌜ Lays (now (ticket .entry)) (now (wiring .entry)) (now (wiring .exit)) r ⌝ }
 {
@@ -118,11 +155,8 @@ pub fn lay(ticket: &[u8], wiring: &mut [u8]) -> LayAnswer
     }
     let q = t.problem;
     let f = figures::figures_of(q);
-    let w = f.w;
-    let size = grid::points(q.n, w, f.layers);
-    if wiring.len() < size {
-        return refused(refuse(10, size));
+    if q.kind == TWO_LAYER {
+        return lay_two_layer(q, f, wiring);
     }
-    draw(q, w, wiring);
-    answered(refuse(0, 0), q, f)
+    lay_by_figures(q, f, wiring)
 }

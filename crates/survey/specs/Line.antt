@@ -8,6 +8,7 @@
 --   boxLine a        "(n, w, distinct nets, across, up, layers Lay uses, floor)"
 --   trunkLine words a
 --                    the line of a row or a channel, which begins with words; "row length 6 nets 3 across 2 tracks 2 layers 2"
+--   twoLayerLine a   "Survey prints `two-layer` and no tracks, and layers 2 even for a solid one"
 --   refusedLine a    "refused 9 at 1"
 --   lineFor a, lineOf s
 --                    the line of an answer and of a ticket; "Each line ends in one newline"
@@ -24,7 +25,7 @@ use mathlib.Core.Bool.{cond}
 use mathlib.Core.List.{List, [], _∷_, _++_}
 use lib.Dec.{ltb, leb}
 use lib.ListN.{length, take, drop}
-use Rattle.terms.specs.Kinds.{row, channel, box, byKind, word}
+use Rattle.terms.specs.Kinds.{row, channel, box, twoLayer, byKind, word}
 use Rattle.terms.specs.Refusals.{accepted, unless}
 use Rattle.survey.specs.declared.SurveyAnswer.{SurveyAnswer}
 use Rattle.survey.specs.declared.Line.{Line}
@@ -60,13 +61,18 @@ trunkLine words a =
     (a .w .0) ++ field " layers " (a .layers .0)
     ++ text "\n"
 
+abbrev pub twoLayerLine : SurveyAnswer → List ℕ
+twoLayerLine a =
+    (begins twoLayer ++ decimal (a .n .0)) ++ field " nets " (a .nets) ++ field " across " (a .across) ++ field " layers "
+    (a .layers .0) ++ text "\n"
+
 abbrev pub refusedLine : SurveyAnswer → List ℕ
 refusedLine a = field "refused " (a .refusal .number) ++ field " at " (a .refusal .place) ++ text "\n"
 
 unfoldable pub lineFor : SurveyAnswer → List ℕ
 lineFor a =
     unless (accepted (a .refusal)) (refusedLine a)
-    (byKind (a .kind) [] (trunkLine (begins row) a) (trunkLine (begins channel) a) (boxLine a))
+    (byKind (a .kind) [] (trunkLine (begins row) a) (trunkLine (begins channel) a) (boxLine a) (twoLayerLine a))
 
 abbrev pub lineOf : List ℕ → List ℕ
 lineOf s = lineFor (surveyOf s)

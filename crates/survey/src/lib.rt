@@ -8,13 +8,14 @@ use terms::BOX;
 use terms::CHANNEL;
 use terms::ROW;
 use terms::Refusal;
+use terms::TWO_LAYER;
 use terms::wide;
 ghost use mathlib.Core.Path.{_≡_};
 ghost use Prim.Native.Nat.{_+_, _≤_, _<_};
 ghost use mathlib.Core.List.{[], _∷_, _++_};
 ghost use lib.ListN.{length, take, drop};
 ghost use Rattle.survey.specs.Survey.{answered, refused, surveyOf};
-ghost use Rattle.survey.specs.Line.{decimal, boxLine, trunkLine, refusedLine, lineFor, longestLine, Lined, Says, Adds};
+ghost use Rattle.survey.specs.Line.{decimal, boxLine, trunkLine, twoLayerLine, refusedLine, lineFor, longestLine, Lined, Says, Adds};
 
 pub struct SurveyAnswer {
     pub refusal: Refusal,
@@ -180,6 +181,18 @@ fn trunk_line(a: SurveyAnswer, words: &[u8]) -> Line
     put(line, b'\n')
 }
 
+// A two-layer channel, whose tracks only its wiring tells.
+fn two_layer_line(a: SurveyAnswer) -> Line
+    ensures { λ r. ⌜ Says r (twoLayerLine a) ⌝ }
+    ensures { λ r. ⌜ r .used ≤ longestLine ⌝ }
+{
+    let line = field(blank(), b"two-layer length ", a.n.0);
+    let line = field(line, b" nets ", wide(a.nets));
+    let line = field(line, b" across ", a.across);
+    let line = field(line, b" layers ", a.layers.0);
+    put(line, b'\n')
+}
+
 fn refused_line(a: SurveyAnswer) -> Line
     ensures { λ r. ⌜ Says r (refusedLine a) ⌝ }
     ensures { λ r. ⌜ r .used ≤ longestLine ⌝ }
@@ -204,6 +217,9 @@ fn line_for(a: SurveyAnswer) -> Line
     }
     if a.kind == BOX {
         return box_line(a);
+    }
+    if a.kind == TWO_LAYER {
+        return two_layer_line(a);
     }
     blank()
 }

@@ -9,6 +9,7 @@ use borrow.Author.Tests.{ltb-true, lt-ltb, eq-eqb, ne-eqb, eqb-true, eqb-false}
 use lib.Dec.{ltb}
 use Rattle.counting.specs.Counting.{In, bit}
 use Rattle.terms.specs.Kinds.{Side, north, south, west, east}
+use Rattle.terms.specs.Limits.{longestSide, widestGrid}
 use Rattle.grid.specs.Grid.{Grid, Node, pin, point, places, Inside, Edge, along-column, along-track, via, north-pin, south-pin, west-pin, east-pin, Joined}
 use Rattle.grid.specs.Legal.{index}
 use Rattle.grid.proofs.Buffer.{index-is, index-once}
@@ -262,7 +263,7 @@ module _ (g : Grid) (long : 1 ≤ g .n) (wide : 1 ≤ g .w) where
 
 -- ---- one spot, one node
 
-module _ (g : Grid) (short : g .n ≤ 90) (narrow : g .w ≤ 90) where
+module _ (g : Grid) (short : g .n ≤ longestSide) (narrow : g .w ≤ widestGrid) where
   pin-once : (s t : Side) (a b : ℕ) → In a (places g s) → In b (places g t) → pinAt s a ≡ pinAt t b → pin s a ≡ pin t b
   pin-once north north a b x y e = ap (pin north) (omega arith)
   pin-once north south a b x y e = absurd (omega arith)

@@ -137,7 +137,7 @@ pub record SideFits (p s x m first start gap count : ℕ) : Type 0 where
 
 pub record EndsFit (p s x m q n w : ℕ) : Type 0 where
   pub long : In n longestSide
-  pub wide : In w longestSide
+  pub wide : In w widestGrid
   pub pins : p ≡ pinPlaces
   pub pin-marks : s ≡ pinPlaces
   pub own : q + n * w ≤ x

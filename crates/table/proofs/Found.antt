@@ -23,7 +23,7 @@ use Rattle.terms.specs.declared.Refusal.{Refusal}
 use Rattle.terms.specs.Refusals.{refusal}
 use Rattle.ticket.specs.Read.{ticketPins}
 use Rattle.ticket.proofs.Good.{reading-good}
-use Rattle.ticket.proofs.Laws.{least-zero}
+use Rattle.counting.proofs.Leasts.{least-zero}
 use Rattle.checker.specs.Check.{checkRefusal, checkGrid, Foreign, FirstForeign, OnePiece, FirstBroken, Judged, Checked}
 use Rattle.checker.proofs.Refusals.{Passed, no-refusal}
 use Rattle.table.specs.Table.{Gives}
@@ -47,7 +47,7 @@ smallest t (suc top) m e =
     by-cases (ℕ-discrete (least t top) 0)
     (λ z. split (t (suc top))
     (λ h. let q : suc m ≡ suc top = omega (arith, rw (z, h) at e) in
-    record { within = omega arith; passes = ap t q ∙ h; before = λ a i l. least-zero t top a z i (omega arith) })
+    record { within = omega arith; passes = ap t q ∙ h; before = λ a i l. least-zero t top a z (omega arith) })
     (λ h. absurd (omega (arith, rw (z, h) at e))))
     (λ nz. let s = smallest t top m (rw (ne-eqb (least t top) 0 nz) at e) in
     record { within = omega (arith, s .within); passes = s .passes; before = s .before })
@@ -132,7 +132,7 @@ module _ (g : Grid) (p : Pins) (X : List ℕ) (long : 1 ≤ g .n) (wide : 1 ≤ 
 
   module _ (none : foreignAt g p X ≡ 0) where
     not-foreign : (q : ℕ) → q < length X → Foreign g p X q → ⊥
-    not-foreign q h = fails (tests-foreign q) (least-zero _ (length X) (suc q) none (omega arith) h)
+    not-foreign q h = fails (tests-foreign q) (least-zero _ (length X) (suc q) none (omega arith))
 
     net-pin : (m : ℕ) → m ≢ 0 → (u : Node) → Held g p x m u → PinOf m
     net-pin m ne (pin s a) h = (s, a, h)
@@ -151,7 +151,7 @@ module _ (g : Grid) (p : Pins) (X : List ℕ) (long : 1 ≤ g .n) (wide : 1 ≤ 
     legal z =
         record {
           known = λ m i j l ne h. net-pin m ne (point i j l) h;
-          whole = λ m u v ne. one-piece m ne (λ h. least-zero _ largestNet m z (omega arith) h) u v;
+          whole = λ m u v ne. one-piece m ne (λ h. least-zero _ largestNet m z (omega arith)) u v;
         }
 
     first-broken : (b : ℕ) → brokenNet g p X ≡ suc b → FirstBroken g p X (suc b)

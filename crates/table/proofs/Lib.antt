@@ -1,4 +1,5 @@
 pub mod Tallied
+pub mod TwoLayer
 pub mod Tests
 pub mod Nodes
 pub mod Nets

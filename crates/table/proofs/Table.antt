@@ -12,11 +12,33 @@ use Rattle.survey.specs.Survey.{surveyOf}
 use Rattle.figures.specs.Figures.{figuresOf}
 use Rattle.survey.specs.Line.{spelled, lineFor}
 use Rattle.checker.specs.Check.{checkRefusal}
-use Rattle.table.specs.Tickets.{r1, r2, r3, c1, c2, c3, b1, b2, t1, t2, t3, t4, longest, k1, k3, example}
+use Rattle.two_layer_law.specs.Moves.{leads, next, steps, moves, widthFor}
+use Rattle.table.specs.Tickets.{r1, r2, r3, c1, c2, c3, d1, d2, d3, d4, d5, d6, b1, b2, t1, t2, t3, t4, longest, k1, k3, example}
 use Rattle.table.specs.Decide.{tallied}
-use Rattle.table.specs.Table.{netsThrough, ProofTable}
-use Rattle.table.proofs.Tallied.{read-tallied, answers}
+use Rattle.table.specs.Table.{netsThrough, LayRefuses, LaidOn, ProofTable}
+use Rattle.table.proofs.Tallied.{read-tallied, answers, lays}
+use Rattle.table.proofs.TwoLayer.{by-test, laid-by}
 use Rattle.table.proofs.Found.{check-gives, found-legal}
+
+d1-refused : LayRefuses d1 17 0
+unfolding sum some least ceil goodMap pinNet listed sideNets fieldsOf headerOf netsOf sideOf after northEnd southEnd westEnd eastEnd
+    tallied figuresOf leads next steps moves widthFor
+d1-refused = by-test d1 refl refl
+
+d3-laid : LaidOn d3 3 3
+unfolding sum some least ceil goodMap pinNet listed sideNets fieldsOf headerOf netsOf sideOf after northEnd southEnd westEnd eastEnd
+    tallied figuresOf leads next steps moves widthFor
+d3-laid = laid-by d3 refl refl 3 3
+
+d4-laid : LaidOn d4 4 7
+unfolding sum some least ceil goodMap pinNet listed sideNets fieldsOf headerOf netsOf sideOf after northEnd southEnd westEnd eastEnd
+    tallied figuresOf leads next steps moves widthFor
+d4-laid = laid-by d4 refl refl 4 7
+
+d5-laid : LaidOn d5 2 1
+unfolding sum some least ceil goodMap pinNet listed sideNets fieldsOf headerOf netsOf sideOf after northEnd southEnd westEnd eastEnd
+    tallied figuresOf leads next steps moves widthFor
+d5-laid = laid-by d5 refl refl 2 1
 
 pub table : ProofTable
 unfolding sum some most ceil pinOn hasPin passesAt across up tracksFor floor goodMap pinNet listed sideNets least fieldsOf headerOf netsOf
@@ -29,6 +51,13 @@ table =
       C1 = answers c1 .1;
       C2 = (answers c2 .1, column 1, column 2, column 3);
       C3 = answers c3 .1;
+      D1 = (d1-refused, answers d1 .1);
+      D2 = (answers d2, lays d2);
+      D3 = d3-laid;
+      D4 = (d4-laid, answers d4 .1);
+      D4-line = ap lineFor (answers d4 .1);
+      D5 = d5-laid;
+      D6 = answers d6;
       B1 = answers b1 .1;
       B2 = answers b2 .1;
       T1 = answers t1;

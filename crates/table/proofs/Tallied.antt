@@ -14,14 +14,17 @@ use Rattle.counting.specs.Counting.{least}
 use Rattle.problem.specs.Problem.{pinsIn, netCount, loneNet}
 use Rattle.ticket.specs.Steps.{Header, Sides}
 use Rattle.ticket.specs.Read.{headerOf, eastEnd, endsOf, pinsAt, ticketOf, answerOf, readOf}
-use Rattle.ticket.proofs.Laws.{header-good, least-same}
+use Rattle.counting.proofs.Leasts.{least-same}
+use Rattle.ticket.proofs.Laws.{header-good}
 use Rattle.ticket.proofs.Spans.{sides-span, pin-count}
 use Rattle.survey.specs.Survey.{surveyed, surveyOf}
+use Rattle.ticket.specs.declared.Reading.{Reading}
+use Rattle.router.specs.Lay.{layFor, layOf}
 use Rattle.table.specs.Decide.{tally, tallied}
 
 module _ (s : List ℕ) (h : Header s) (w : Sides s (endsOf s)) where
   lone-by-bytes : loneNet (pinsIn (pinsAt s (endsOf s))) ≡ least (λ v. eqb (tally s v) 1) largestNet
-  lone-by-bytes = least-same _ _ largestNet (λ v l u. ap (λ (k : ℕ). eqb k 1) (pin-count s (endsOf s) v (λ z. omega arith) h w))
+  lone-by-bytes = least-same _ _ largestNet (λ v i. ap (λ (k : ℕ). eqb k 1) (pin-count s (endsOf s) v (λ z. omega arith) h w))
 
   nets-by-bytes : netCount (pinsIn (pinsAt s (endsOf s))) ≡ nets (λ v. leb 1 (tally s v))
   nets-by-bytes = count-same _ _ largestNet (λ v i. ap (leb 1) (pin-count s (endsOf s) v (λ z. omega arith) h w))
@@ -39,3 +42,8 @@ read-tallied s =
 pub answers : (s : List ℕ) → (readOf s ≡ answerOf (tallied s)) × (surveyOf s ≡ surveyed (tallied s))
 unfolding surveyOf
 answers s = (ap answerOf (read-tallied s), ap surveyed (read-tallied s))
+
+-- and Lay's
+pub lays : (s : List ℕ) (size : ℕ) → layOf s size ≡ layFor (tallied s) size
+unfolding layOf
+lays s size = ap (λ (t : Reading). layFor t size) (read-tallied s)

@@ -1,4 +1,5 @@
--- Document 01's "Tickets for the proof table", a field for each row, and the lines that "The program" quotes. Their bytes: Tickets.antt.
+-- Document 01's "Tickets for the proof table", a field for each row, and the lines that "The program" quotes; then two-layer channels
+-- (document 02, job 1). Their bytes: Tickets.antt.
 --
 --   figures kind n w nets across up layers floor
 --                       Survey's whole answer to a good ticket; "(n, w, distinct nets, across, up, layers Lay uses, floor)"
@@ -9,14 +10,17 @@
 --   netsThrough q c     how many nets column c must pass, of a problem q; "Column c (1 to n) must pass a net that .."
 --   Gives s w k first x a
 --                       Check's answer to the ticket s and the wiring x is a, whatever is in its scratch, if that is long enough
+--   LayRefuses s number place
+--                       Lay refuses the ticket s, whatever the buffer
+--   LaidOn s n w        Lay asks for n × w × 2 bytes for the ticket s, and with them answers w tracks, two layers, the first vertical
 --   ProofTable          all rows; "These are shown by proof as one computed table"
-use Prim.Native.Nat.{ℕ, _≤_}
+use Prim.Native.Nat.{ℕ, _*_, _≤_}
 use mathlib.Core.Path.{_≡_}
 use mathlib.Core.Bool.{Bool, true, false}
 use mathlib.Core.List.{List, [], _∷_}
 use lib.ListN.{length}
 use Rattle.grid.specs.Grid.{upright}
-use Rattle.terms.specs.Kinds.{row, channel, box}
+use Rattle.terms.specs.Kinds.{row, channel, box, twoLayer}
 use Rattle.grid.specs.Legal.{Legal, nets, wiringOf}
 use Rattle.density.specs.Density.{passes}
 use Rattle.ticket.specs.declared.ReadAnswer.{ReadAnswer}
@@ -29,7 +33,8 @@ use Rattle.terms.specs.declared.Refusal.{Refusal}
 use Rattle.terms.specs.Refusals.{refusal}
 use Rattle.survey.specs.Line.{text, lineOf}
 use Rattle.checker.specs.Check.{Checked}
-use Rattle.table.specs.Tickets.{r1, r2, r3, c1, c2, c3, b1, b2, t1, t2, t3, t4, longest, k1, k3, example}
+use Rattle.router.specs.Lay.{refused as refusedLay, layOf}
+use Rattle.table.specs.Tickets.{r1, r2, r3, c1, c2, c3, d1, d2, d3, d4, d5, d6, b1, b2, t1, t2, t3, t4, longest, k1, k3, example}
 
 abbrev pub figures : ℕ → ℕ → ℕ → ℕ → ℕ → ℕ → ℕ → ℕ → SurveyAnswer
 figures kind n w nets across up layers floor =
@@ -60,6 +65,17 @@ netsThrough q c = nets (passes (shapeOf q) (pinsIn (q .pins)) c)
 abbrev pub Gives : List ℕ → ℕ → ℕ → Bool → List ℕ → Refusal → Type 0
 Gives s w k first x a = (y y′ : List ℕ) (r : Refusal) → length x ≤ length y → Checked (ticketOf s) w k first x y y′ r → r ≡ a
 
+abbrev pub LayRefuses : List ℕ → ℕ → ℕ → Type 0
+LayRefuses s number place = (size : ℕ) → layOf s size ≡ refusedLay (refusal number place)
+
+abbrev pub LaidOn : List ℕ → ℕ → ℕ → Type 0
+LaidOn s n w =
+    (layOf s 0 ≡ refusedLay (refusal 10 (n * w * 2)))
+    × (layOf s (n * w * 2) .refusal .number ≡ 0)
+    × (layOf s (n * w * 2) .w .0 ≡ w)
+    × (layOf s (n * w * 2) .k .0 ≡ 2)
+    × (layOf s (n * w * 2) .first ≡ false)
+
 pub record ProofTable : Type 0 where
   -- "R1: 01 06 01 01 3F 01 02 01 03 02 03: across 2, tracks 2, layers 2."
   pub R1 : surveyOf r1 ≡ figures row 6 2 3 2 0 2 0
@@ -76,6 +92,19 @@ pub record ProofTable : Type 0 where
       × (netsThrough (problemOf c2) 3 ≡ 1)
   -- "C3: n 1, h 1, north 1, south 1: across 0, tracks 1."
   pub C3 : surveyOf c3 ≡ figures channel 1 1 1 0 0 3 0
+  -- n 2, north 1 2, south 2 1 is solid: Lay gives 17 at 0, and "Survey prints `two-layer` and no tracks, and layers 2 even for a solid one"
+  pub D1 : LayRefuses d1 17 0 × (surveyOf d1 ≡ figures twoLayer 2 0 2 2 0 2 0)
+  -- the same with one pin less: "9, a net with one pin (the smallest such net)"
+  pub D2 : Refused d2 9 1 × LayRefuses d2 9 1
+  -- the same with an empty column beside it: three tracks
+  pub D3 : LaidOn d3 3 3
+  -- n 4, north 1 2 1 2, south 2 1 2 1, the most tracks for the length: "4w ≤ 7n" is 28 ≤ 28
+  pub D4 : LaidOn d4 4 7 × (surveyOf d4 ≡ figures twoLayer 4 0 2 2 0 2 0)
+  pub D4-line : lineOf d4 ≡ text "two-layer length 4 nets 2 across 2 layers 2\n"
+  -- n 2, north 1 2, south 1 2: every place is filled, and no net's pins are in different columns
+  pub D5 : LaidOn d5 2 1
+  -- "byte 2 always 1"
+  pub D6 : Refused d6 4 2
   -- "B1: 1 by 1, north 1, west 1: across 1, up 1, layers 6, floor 2."
   pub B1 : surveyOf b1 ≡ figures box 1 1 1 1 1 6 2
   -- "B2: 2 by 2, north 1 2, south 2 1: across 2, up 2, floor 2."

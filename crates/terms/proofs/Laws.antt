@@ -12,7 +12,7 @@ use Rattle.counting.specs.Counting.{In, ceil}
 use Rattle.counting.proofs.Counts.{ceil-le}
 use Rattle.terms.specs.declared.Refusal.{Refusal}
 use Rattle.terms.specs.Limits.{within}
-use Rattle.terms.specs.Kinds.{row, channel, box, west, east, byKind, isKind, hasSide, tracksBound, layersBound}
+use Rattle.terms.specs.Kinds.{row, channel, box, twoLayer, west, east, byKind, isKind, hasSide, tracksBound, layersBound}
 use Rattle.terms.specs.Refusals.{unless}
 
 pub within-in : (a top : ℕ) → within a top ≡ true → In a top
@@ -27,6 +27,7 @@ pub data Known : ℕ → Type 0 where
   is-row : Known row
   is-channel : Known channel
   is-box : Known box
+  is-two-layer : Known twoLayer
 
 pub known : (kind : ℕ) → isKind kind ≡ true → Known kind
 known kind e =
@@ -36,7 +37,10 @@ known kind e =
         | yes c ↦ subst Known (sym c) is-channel
         | no c ↦ elim (ℕ-discrete kind box) [
           | yes b ↦ subst Known (sym b) is-box
-          | no b ↦ absurd (false≢true (rw (ne-eqb kind row r, ne-eqb kind channel c, ne-eqb kind box b) at e))
+          | no b ↦ elim (ℕ-discrete kind twoLayer) [
+            | yes t ↦ subst Known (sym t) is-two-layer
+            | no t ↦ absurd (false≢true (rw (ne-eqb kind row r, ne-eqb kind channel c, ne-eqb kind box b, ne-eqb kind twoLayer t) at e))
+          ]
         ]
       ]
     ]
@@ -46,20 +50,35 @@ ceil-small a b h = ceil-le a b a (omega (arith, mul-le-mul-right a h))
 
 -- ---- what only boxes have
 
-pub of-box : {A : Type 0} (kind : ℕ) (none r c b : A) → kind ≡ box → byKind kind none r c b ≡ b
-of-box kind none r c b e = subst (λ (k : ℕ). byKind k none r c b ≡ b) (sym e) refl
+pub of-box : {A : Type 0} (kind : ℕ) (none r c b t : A) → kind ≡ box → byKind kind none r c b t ≡ b
+of-box kind none r c b t e = subst (λ (k : ℕ). byKind k none r c b t ≡ b) (sym e) refl
 
-pub boxes-only : {A : Type 0} (kind : ℕ) (none b : A) → kind ≢ box → byKind kind none none none b ≡ none
-boxes-only kind none b ne = rw (ne-eqb kind box ne) (same (eqb kind row) (eqb kind channel))
+pub boxes-only : {A : Type 0} (kind : ℕ) (none b : A) → kind ≢ box → byKind kind none none none b none ≡ none
+boxes-only kind none b ne = rw (ne-eqb kind box ne) (same (eqb kind row) (eqb kind channel) (eqb kind twoLayer))
   where
-    same : (s t : Bool) → cond s none (cond t none none) ≡ none
-    same true t = refl
-    same false true = refl
-    same false false = refl
+    same : (s t u : Bool) → cond s none (cond t none (cond u none none)) ≡ none
+    same true t u = refl
+    same false true u = refl
+    same false false true = refl
+    same false false false = refl
+
+-- ---- what only two-layer channels have
+
+pub of-two-layer : {A : Type 0} (kind : ℕ) (none r c b t : A) → kind ≡ twoLayer → byKind kind none r c b t ≡ t
+of-two-layer kind none r c b t e = subst (λ (k : ℕ). byKind k none r c b t ≡ t) (sym e) refl
+
+pub two-layers-only : {A : Type 0} (kind : ℕ) (none t : A) → kind ≢ twoLayer → byKind kind none none none none t ≡ none
+two-layers-only kind none t ne = rw (ne-eqb kind twoLayer ne) (same (eqb kind row) (eqb kind channel) (eqb kind box))
+  where
+    same : (r c b : Bool) → cond r none (cond c none (cond b none none)) ≡ none
+    same true c b = refl
+    same false true b = refl
+    same false false true = refl
+    same false false false = refl
 
 -- no kind is left
-pub other-kind : (kind : ℕ) → isKind kind ≡ true → kind ≢ row → kind ≢ channel → kind ≢ box → ⊥
-other-kind kind e r c b = false≢true (rw (ne-eqb kind row r, ne-eqb kind channel c, ne-eqb kind box b) at e)
+pub other-kind : (kind : ℕ) → isKind kind ≡ true → kind ≢ row → kind ≢ channel → kind ≢ box → kind ≢ twoLayer → ⊥
+other-kind kind e r c b t = false≢true (rw (ne-eqb kind row r, ne-eqb kind channel c, ne-eqb kind box b, ne-eqb kind twoLayer t) at e)
 
 -- ---- rows and channels
 
@@ -73,17 +92,18 @@ thin kind e =
       | yes r ↦ subst Thin (sym r) thin-row
       | no r ↦ elim (ℕ-discrete kind channel) [
         | yes c ↦ subst Thin (sym c) thin-channel
-        | no c ↦ absurd (false≢true (rw (ne-eqb kind row r, ne-eqb kind channel c, none (eqb kind box)) at e))
+        | no c ↦ absurd (false≢true (rw (ne-eqb kind row r, ne-eqb kind channel c, none (eqb kind box) (eqb kind twoLayer)) at e))
       ]
     ]
   where
-    none : (t : Bool) → cond t false false ≡ false
-    none true = refl
-    none false = refl
+    none : (t u : Bool) → cond t false (cond u false false) ≡ false
+    none true u = refl
+    none false true = refl
+    none false false = refl
 
-pub of-thin : {A : Type 0} {kind : ℕ} → Thin kind → (none a b : A) → byKind kind none a a b ≡ a
-of-thin thin-row none a b = refl
-of-thin thin-channel none a b = refl
+pub of-thin : {A : Type 0} {kind : ℕ} → Thin kind → (none a b t : A) → byKind kind none a a b t ≡ a
+of-thin thin-row none a b t = refl
+of-thin thin-channel none a b t = refl
 
 pub no-west : {kind : ℕ} → Thin kind → hasSide kind west ≡ false
 no-west thin-row = refl

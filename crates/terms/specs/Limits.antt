@@ -1,7 +1,8 @@
 -- Every limit, by name. The code's constants bear the same names.
 --
 --   longestSide       "n, 1 to 90", "w, 1 to 90": the places of a side
---   widestGrid        "w outside 1 to 90": the tracks of a grid that Check and Layer view take
+--   widestChannel     "w outside 1 to 90": the tracks of a row's or a channel's grid that Check takes
+--   widestGrid        "the limit on w is 157 for this kind in Check, and in Layer view always": the tracks of a grid
 --   mostLayers        "k outside 1 to 255"
 --   mostTrunkLayers   "h, the number of trunk (horizontal) layers, 1 to 8"
 --   largestNet        "one net number, 1 to 180"
@@ -15,8 +16,11 @@ use lib.Dec.{leb}
 abbrev pub longestSide : ℕ
 longestSide = 90
 
+abbrev pub widestChannel : ℕ
+widestChannel = 90
+
 abbrev pub widestGrid : ℕ
-widestGrid = 90
+widestGrid = 157
 
 abbrev pub mostLayers : ℕ
 mostLayers = 255

@@ -11,7 +11,9 @@ ghost use Rattle.terms.specs.Refusals.{refusal};
 
 pub const LONGEST_SIDE: usize = 90;
 
-pub const WIDEST_GRID: usize = 90;
+pub const WIDEST_CHANNEL: usize = 90;
+
+pub const WIDEST_GRID: usize = 157;
 
 pub const MOST_LAYERS: usize = 255;
 
@@ -56,9 +58,18 @@ pub const CHANNEL: u8 = 2;
 
 pub const BOX: u8 = 3;
 
+pub const TWO_LAYER: u8 = 4;
+
 // What stands in the kind's line of a column of the kind table; `none` for a number that is no kind.
-pub fn by_kind(kind: u8, none: usize, rows: usize, channels: usize, boxes: usize) -> usize
-    ensures { λ r. ⌜ r ≡ byKind kind none rows channels boxes ⌝ }
+pub fn by_kind(
+    kind: u8,
+    none: usize,
+    rows: usize,
+    channels: usize,
+    boxes: usize,
+    twos: usize,
+) -> usize
+    ensures { λ r. ⌜ r ≡ byKind kind none rows channels boxes twos ⌝ }
 {
     if kind == ROW {
         return rows;
@@ -69,31 +80,48 @@ pub fn by_kind(kind: u8, none: usize, rows: usize, channels: usize, boxes: usize
     if kind == BOX {
         return boxes;
     }
+    if kind == TWO_LAYER {
+        return twos;
+    }
     none
 }
 
 pub fn is_kind(kind: u8) -> bool
     ensures { λ r. ⌜ r ≡ isKind kind ⌝ }
 {
-    by_kind(kind, 0, 1, 1, 1) == 1
+    by_kind(kind, 0, 1, 1, 1, 1) == 1
 }
 
 pub fn largest_side_map(kind: u8) -> usize
     ensures { λ r. ⌜ r ≡ largestSideMap kind ⌝ }
 {
-    by_kind(kind, 0, 1, 3, 15)
+    by_kind(kind, 0, 1, 3, 15, 3)
 }
 
 pub fn largest_byte2(kind: u8) -> usize
     ensures { λ r. ⌜ r ≡ largestByte2 kind ⌝ }
 {
-    by_kind(kind, 0, MOST_TRUNK_LAYERS, MOST_TRUNK_LAYERS, LONGEST_SIDE)
+    by_kind(
+        kind,
+        0,
+        MOST_TRUNK_LAYERS,
+        MOST_TRUNK_LAYERS,
+        LONGEST_SIDE,
+        1,
+    )
 }
 
 pub fn widest(kind: u8) -> usize
     ensures { λ r. ⌜ r ≡ widest kind ⌝ }
 {
-    by_kind(kind, 0, WIDEST_GRID, WIDEST_GRID, LONGEST_SIDE)
+    by_kind(
+        kind,
+        0,
+        WIDEST_CHANNEL,
+        WIDEST_CHANNEL,
+        LONGEST_SIDE,
+        WIDEST_GRID,
+    )
 }
 
 // ---- small functions of numbers

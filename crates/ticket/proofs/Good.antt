@@ -15,7 +15,7 @@ use borrow.Author.Tests.{eqb-true, eqb-false, eq-eqb, ne-eqb, leb-true}
 use Rattle.counting.specs.Counting.{In}
 use Rattle.counting.proofs.Sums.{split}
 use Rattle.terms.specs.Kinds.{Side, north, south, west, east, byKind, hasSide, largestSideMap, largestByte2}
-use Rattle.terms.proofs.Laws.{Known, is-row, is-channel, is-box, known}
+use Rattle.terms.proofs.Laws.{Known, is-row, is-channel, is-box, is-two-layer, known}
 use Rattle.terms.specs.Limits.{largestNet, longestSide}
 use Rattle.grid.specs.Grid.{Grid, places, upright}
 use Rattle.grid.specs.Legal.{Pins as GridPins, entry}
@@ -24,7 +24,8 @@ use Rattle.ticket.proofs.Bits.{standing-below, pin-stands, pin-empty, p
 use Rattle.ticket.proofs.Filled.{entry-listed, entry-past}
 use Rattle.ticket.proofs.Seconds.{second}
 use Rattle.ticket.proofs.Spans.{side-read, side-before}
-use Rattle.ticket.proofs.Laws.{unless-good, Fields, fields-good, nets-good, least-zero}
+use Rattle.counting.proofs.Leasts.{least-zero}
+use Rattle.ticket.proofs.Laws.{unless-good, Fields, fields-good, nets-good}
 use Rattle.ticket.specs.declared.Cursor.{Cursor}
 use Rattle.problem.specs.declared.Pins.{Pins}
 use Rattle.ticket.specs.declared.Reading.{Reading}
@@ -159,6 +160,10 @@ module _ (s : List ℕ) (r : Read s) where
   lacking east is-row e h = side-bare s _ _ _ (off (byte s 3) 3 (omega arith))
   lacking west is-channel e h = side-bare s _ _ _ (off (byte s 3) 2 (omega arith))
   lacking east is-channel e h = side-bare s _ _ _ (off (byte s 3) 3 (omega arith))
+  lacking west is-two-layer e h = side-bare s _ _ _ (off (byte s 3) 2 (omega arith))
+  lacking east is-two-layer e h = side-bare s _ _ _ (off (byte s 3) 3 (omega arith))
+  lacking north is-two-layer e h = absurd (true≢false e)
+  lacking south is-two-layer e h = absurd (true≢false e)
   lacking north is-row e h = absurd (true≢false e)
   lacking north is-channel e h = absurd (true≢false e)
   lacking south is-channel e h = absurd (true≢false e)
@@ -172,13 +177,15 @@ module _ (s : List ℕ) (r : Read s) where
 
   -- the width that the map was read by is the kind's own, or the side is bare
   upper : {kind : ℕ} (side : Side) → Known kind → (hasSide kind side ≡ false) ⊎
-      (places (upright (byte s 1) (byKind kind 1 1 1 (byte s 2)) 1) side ≡ places (upright (byte s 1) (byte s 2) 1) side)
+      (places (upright (byte s 1) (byKind kind 1 1 1 (byte s 2) 1) 1) side ≡ places (upright (byte s 1) (byte s 2) 1) side)
   upper north k = inr refl
   upper south k = inr refl
   upper west is-row = inl refl
   upper east is-row = inl refl
   upper west is-channel = inl refl
   upper east is-channel = inl refl
+  upper west is-two-layer = inl refl
+  upper east is-two-layer = inl refl
   upper west is-box = inr refl
   upper east is-box = inr refl
 
@@ -201,10 +208,11 @@ module _ (s : List ℕ) (r : Read s) where
   inside side zero m n e = absurd (n (sym e ∙ none side))
   inside side (suc a) m n e = ⊎-elim (λ le. (omega arith, le)) (λ lt. absurd (n (sym e ∙ past side (suc a) lt))) (le-or-lt (suc a) (places grid side))
 
-  wide : {kind : ℕ} → Known kind → byte s 2 ≤ largestByte2 kind → byKind kind 1 1 1 (byte s 2) ≤ longestSide
+  wide : {kind : ℕ} → Known kind → byte s 2 ≤ largestByte2 kind → byKind kind 1 1 1 (byte s 2) 1 ≤ longestSide
   wide is-row h = omega arith
   wide is-channel h = omega arith
   wide is-box h = h
+  wide is-two-layer h = omega arith
 
   fits : (side : Side) → places grid side ≤ longestSide
   fits north = r .header .length .1
@@ -219,7 +227,7 @@ module _ (s : List ℕ) (r : Read s) where
   several side a n =
       let i = inside side a _ n refl in
       let u = second pins (pins side a) side a (omega (arith, fits side)) refl
-      (eqb-false _ 1 (least-zero (λ v. eqb (pinCount pins v) 1) largestNet (pins side a) (r .lone) (omega arith) (small side a))) in
+      (eqb-false _ 1 (least-zero (λ v. eqb (pinCount pins v) 1) largestNet (pins side a) (r .lone) (omega (arith, small side a)))) in
       record { side = u .side; place = u .place; on = inside (u .side) (u .place) _ n (u .net); net = u .net; different = u .different }
 
   good : Good problem

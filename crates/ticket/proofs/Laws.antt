@@ -13,11 +13,10 @@ use lib.ListN.{length}
 use borrow.Author.Tests.{lt-ltb, le-ltb, eq-eqb, ne-eqb, leb-true}
 use Rattle.terms.specs.Kinds.{isKind, largestByte2, largestSideMap}
 use Rattle.terms.specs.Limits.{largestNet, longestSide, within, mostTrunkLayers}
-use Rattle.counting.specs.Counting.{least}
 use Rattle.ticket.specs.Format.{byte}
 use Rattle.ticket.specs.Read.{stop, goOn, fieldsOf, headerOf, netsOf, orRefused, refusedReading}
 use Rattle.terms.specs.Refusals.{unless}
-use Rattle.terms.proofs.Laws.{within-in, Known, is-row, is-channel, is-box, known}
+use Rattle.terms.proofs.Laws.{within-in, Known, is-row, is-channel, is-box, is-two-layer, known}
 use Rattle.ticket.specs.Steps.{Header}
 use Rattle.ticket.specs.declared.Reading.{Reading}
 use Rattle.ticket.specs.declared.Cursor.{Cursor}
@@ -57,6 +56,7 @@ pub second-le : {kind : ℕ} → Known kind → largestByte2 kind ≤ longestSid
 second-le is-row = omega arith
 second-le is-channel = omega arith
 second-le is-box = omega arith
+second-le is-two-layer = omega arith
 
 pub header-good : (s : List ℕ) → headerOf s .refusal .number ≡ 0 → Header s
 unfolding headerOf
@@ -120,46 +120,6 @@ module _ (s : List ℕ) (from count i : ℕ) where
 
   pub nets-passed : i ≡ count → netsOf s (from + i) (count - i) ≡ goOn (from + count)
   nets-passed e = nets-end s (from + i) (count - i) (omega arith) ∙ ap goOn (ap (λ (x : ℕ). from + x) e)
-
--- ---- the smallest number that passes a test
-
-fails : (b : Bool) (top : ℕ) → cond b (suc top) 0 ≡ 0 → b ≡ false
-fails true top e = absurd (omega arith)
-fails false top e = refl
-
-module _ (t : ℕ → Bool) where
-  pub least-none : least t 0 ≡ 0
-  unfolding least
-  least-none = refl
-
-  -- v + 1 fails too
-  pub least-more : (v : ℕ) → least t v ≡ 0 → t (v + 1) ≡ false → least t (v + 1) ≡ 0
-  unfolding least
-  least-more v e f = rw (add-one, e, ← add-one, f)
-
-  -- v + 1 is the first that passes
-  pub least-here : (v top : ℕ) → v < top → least t v ≡ 0 → t (v + 1) ≡ true → least t top ≡ v + 1
-  unfolding least
-  least-here v zero h e f = absurd (not-suc-le-zero h)
-  least-here v (suc top) h e f =
-      by-cases (ℕ-discrete v top)
-      (λ q. let at : t (suc top) ≡ true = ap t (ap suc (sym q) ∙ sym (add-one v)) ∙ f in rw (← q, e, q, at) (sym (add-one top)))
-      (λ ne. rw (least-here v top (omega arith) e f, ne-eqb (v + 1) 0 (λ z. omega arith)))
-
-  -- none passes
-  pub least-zero : (top m : ℕ) → least t top ≡ 0 → 1 ≤ m → m ≤ top → t m ≡ false
-  unfolding least
-  least-zero zero m e l h = absurd (omega arith)
-  least-zero (suc top) m e l h =
-      by-cases (ℕ-discrete (least t top) 0)
-      (λ z. by-cases (ℕ-discrete m (suc top)) (λ q. rw q (fails (t (suc top)) top (rw z at e))) (λ ne. least-zero top m z l (omega arith)))
-      (λ nz. absurd (nz (rw (ne-eqb (least t top) 0 nz) at e)))
-
--- the test is asked at 1 to top alone
-pub least-same : (t t′ : ℕ → Bool) (top : ℕ) → ((a : ℕ) → 1 ≤ a → a ≤ top → t a ≡ t′ a) → least t top ≡ least t′ top
-unfolding least
-least-same t t′ zero e = refl
-least-same t t′ (suc top) e = rw (e (suc top) (omega arith) (omega arith), least-same t t′ top (λ a l h. e a l (omega arith)))
 
 -- ---- the stages of the whole reading
 

@@ -1,6 +1,6 @@
 //! Check: legality by union-find over every join of 'The grid and what joins'.
 
-use crate::{no_kind, no_side, read, Pin, Refusal, BOX, CHANNEL, EAST, MOST_LAYERS, NORTH, ROW, SOUTH, WEST, WIDEST_GRID};
+use crate::{no_kind, no_side, read, widest, Pin, Refusal, BOX, CHANNEL, EAST, MOST_LAYERS, NORTH, ROW, SOUTH, TWO_LAYER, WEST};
 
 /// The sizes of a wiring, and whether its layer 1 is horizontal.
 #[derive(Clone, Copy, Debug, PartialEq, Eq)]
@@ -126,11 +126,11 @@ pub fn judge(g: Grid, pins: &[Pin], x: &[u8]) -> Result<(), Refusal> {
 pub fn check(t: &[u8], w: usize, k: usize, first: bool, x: &[u8], scratch: usize) -> Result<(), Refusal> {
     let t = read::read(t)?;
     let fits = match t.kind {
-        ROW | CHANNEL => true,
+        ROW | CHANNEL | TWO_LAYER => true,
         BOX => w == t.byte2,
         other => no_kind(other),
     };
-    if !(1..=WIDEST_GRID).contains(&w) || !fits || !(1..=MOST_LAYERS).contains(&k) {
+    if !(1..=widest(t.kind)).contains(&w) || !fits || !(1..=MOST_LAYERS).contains(&k) {
         return Err(Refusal(11, 0));
     }
     let g = Grid { n: t.n, w, k, first };

@@ -3,7 +3,7 @@
 
 use crate::judge::Grid;
 use crate::survey::figures;
-use crate::{no_kind, no_side, Pin, Ticket, BOX, CHANNEL, EAST, NORTH, ROW, SOUTH, WEST};
+use crate::{no_kind, no_side, two_layer, Pin, Refusal, Ticket, BOX, CHANNEL, EAST, NORTH, ROW, SOUTH, TWO_LAYER, WEST};
 
 /// A wiring under way; a point is given to one net only.
 struct Canvas {
@@ -31,32 +31,44 @@ impl Canvas {
     }
 }
 
-/// The grid of the ticket's wiring.
-pub fn grid(t: &Ticket) -> Grid {
+fn surveyed_grid(t: &Ticket, first: bool) -> Grid {
     let f = figures(t);
-    let first = match t.kind {
-        ROW | CHANNEL => false,
-        BOX => t.n < f.w,
-        other => no_kind(other),
-    };
     Grid { n: t.n, w: f.w, k: f.layers, first }
 }
 
-/// The grid and the wiring that the ticket gets.
-pub fn lay(t: &Ticket) -> (Grid, Vec<u8>) {
-    let g = grid(t);
-    let x = match t.kind {
-        ROW => lay_trunks(t, g, |layer, _| layer - 1),
-        CHANNEL => lay_trunks(t, g, |layer, north| if (layer % 4 == 2) == north { layer - 1 } else { layer + 1 }),
-        BOX => lay_box(t, g),
+fn trunk_grid(t: &Ticket) -> Grid {
+    surveyed_grid(t, false)
+}
+
+fn box_grid(t: &Ticket) -> Grid {
+    surveyed_grid(t, t.n < t.byte2)
+}
+
+/// The grid of the ticket's wiring where the documents give it: the number of tracks of a two-layer channel is free.
+pub fn grid(t: &Ticket) -> Option<Grid> {
+    match t.kind {
+        ROW | CHANNEL => Some(trunk_grid(t)),
+        BOX => Some(box_grid(t)),
+        TWO_LAYER => None,
         other => no_kind(other),
-    };
-    (g, x)
+    }
+}
+
+/// A grid and a wiring that the ticket may get, or 17.
+pub fn lay(t: &Ticket) -> Result<(Grid, Vec<u8>), Refusal> {
+    match t.kind {
+        ROW => Ok(lay_trunks(t, |layer, _| layer - 1)),
+        CHANNEL => Ok(lay_trunks(t, |layer, north| if (layer % 4 == 2) == north { layer - 1 } else { layer + 1 })),
+        BOX => Ok(lay_box(t)),
+        TWO_LAYER if two_layer::is_solid(t) => Err(Refusal(17, 0)),
+        TWO_LAYER => Ok(two_layer::lay(t, 0)),
+        other => no_kind(other),
+    }
 }
 
 /// A row or a channel; `comb` gives the layer of a north or a south pin's stretch, of the trunk's.
-fn lay_trunks(t: &Ticket, g: Grid, comb: impl Fn(usize, bool) -> usize) -> Vec<u8> {
-    let h = t.byte2;
+fn lay_trunks(t: &Ticket, comb: impl Fn(usize, bool) -> usize) -> (Grid, Vec<u8>) {
+    let (g, h) = (trunk_grid(t), t.byte2);
     let mut canvas = Canvas::new(g);
     let mut spans: Vec<(usize, usize, u8)> = Vec::new();
     for net in t.nets() {
@@ -87,7 +99,7 @@ fn lay_trunks(t: &Ticket, g: Grid, comb: impl Fn(usize, bool) -> usize) -> Vec<u
         });
         place += 1;
     }
-    canvas.x
+    (g, canvas.x)
 }
 
 /// How a box is seen: turned, then with columns reversed, then with tracks reversed. Each step is its own inverse.
@@ -169,7 +181,8 @@ fn matched(wishes: &[Vec<usize>], slots: usize) -> Vec<usize> {
     (0..wishes.len()).map(|a| holder.iter().position(|h| *h == Some(a)).unwrap()).collect()
 }
 
-fn lay_box(t: &Ticket, g: Grid) -> Vec<u8> {
+fn lay_box(t: &Ticket) -> (Grid, Vec<u8>) {
+    let g = box_grid(t);
     let turned = g.n < g.w;
     let (n, w) = if turned { (g.w, g.n) } else { (g.n, g.w) };
     let views = [(false, false), (true, false), (false, true), (true, true)].map(|(columns, tracks)| View { turned, columns, tracks });
@@ -191,7 +204,7 @@ fn lay_box(t: &Ticket, g: Grid) -> Vec<u8> {
             }
         }
     }
-    out
+    (g, out)
 }
 
 /// A box with n at least w in which the nets on just north and east are the most numerous corner kind.

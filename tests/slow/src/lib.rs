@@ -1,18 +1,22 @@
-//! A slow, independent reading of the scope document: it reads and surveys tickets, judges wirings and lays them.
+//! A slow, independent reading of the scope document and of the requests: it reads and surveys tickets, judges wirings and
+//! lays them.
 //!
-//! Written from the document alone; it shares no code with the crates. Refusals are a number and a place.
+//! Written from the documents alone; it shares no code with the crates. Refusals are a number and a place.
 
 pub mod judge;
 pub mod lay;
 pub mod maze;
 pub mod read;
+pub mod search;
 pub mod survey;
 pub mod tickets;
+pub mod two_layer;
 pub mod wirings;
 
-/// The limits of the document.
+/// The limits of the documents. The widest grid is a two-layer channel's; Layer view takes it always.
 pub const LONGEST_SIDE: usize = 90;
-pub const WIDEST_GRID: usize = 90;
+pub const WIDEST_CHANNEL: usize = 90;
+pub const WIDEST_GRID: usize = 157;
 pub const MOST_LAYERS: usize = 255;
 pub const MOST_TRUNK_LAYERS: usize = 8;
 pub const LARGEST_NET: u8 = 180;
@@ -32,6 +36,7 @@ pub fn no_side(number: usize) -> ! {
 pub const ROW: u8 = 1;
 pub const CHANNEL: u8 = 2;
 pub const BOX: u8 = 3;
+pub const TWO_LAYER: u8 = 4;
 
 pub fn no_kind(number: u8) -> ! {
     panic!("{number} is no kind")
@@ -43,7 +48,18 @@ pub fn rules(kind: u8) -> Option<(&'static [usize], usize)> {
         ROW => Some((&[NORTH], MOST_TRUNK_LAYERS)),
         CHANNEL => Some((&[NORTH, SOUTH], MOST_TRUNK_LAYERS)),
         BOX => Some((&[NORTH, SOUTH, WEST, EAST], LONGEST_SIDE)),
+        TWO_LAYER => Some((&[NORTH, SOUTH], 1)),
         _ => None,
+    }
+}
+
+/// The most tracks of a wiring of this kind that Check takes.
+pub fn widest(kind: u8) -> usize {
+    match kind {
+        ROW | CHANNEL => WIDEST_CHANNEL,
+        BOX => LONGEST_SIDE,
+        TWO_LAYER => WIDEST_GRID,
+        other => no_kind(other),
     }
 }
 
@@ -84,5 +100,10 @@ impl Ticket {
         nets.sort_unstable();
         nets.dedup();
         nets
+    }
+
+    /// The places of a net's pins on a side, in rising order.
+    pub fn on(&self, side: usize, net: u8) -> Vec<usize> {
+        self.pins.iter().filter(|p| p.side == side && p.net == net).map(|p| p.place).collect()
     }
 }

@@ -1,6 +1,6 @@
 //! Counts and floor, and the program's line.
 
-use crate::{no_kind, no_side, read, Pin, Refusal, Ticket, BOX, CHANNEL, EAST, NORTH, ROW, SOUTH, WEST};
+use crate::{no_kind, no_side, read, Pin, Refusal, Ticket, BOX, CHANNEL, EAST, NORTH, ROW, SOUTH, TWO_LAYER, WEST};
 
 /// The largest number of nets that any of the lines 1 to `lines` must pass; `at` gives a pin's line.
 fn most_passed(t: &Ticket, lines: usize, at: impl Fn(&Pin) -> usize) -> usize {
@@ -9,6 +9,7 @@ fn most_passed(t: &Ticket, lines: usize, at: impl Fn(&Pin) -> usize) -> usize {
     (1..=lines).map(|c| spans.iter().filter(|s| passes(c, s)).count()).max().unwrap_or(0)
 }
 
+/// Survey's figures; w is 0 for a two-layer channel, whose number of tracks is Lay's own.
 #[derive(Clone, Copy, Debug, PartialEq, Eq)]
 pub struct Figures {
     pub w: usize,
@@ -56,6 +57,7 @@ pub fn figures(t: &Ticket) -> Figures {
         ROW => trunk_figures(t, 2 * t.byte2),
         CHANNEL => trunk_figures(t, 2 * t.byte2 + 1),
         BOX => box_figures(t),
+        TWO_LAYER => Figures { w: 0, nets: t.nets().len(), across: across(t), up: 0, layers: 2, floor: 0 },
         other => no_kind(other),
     }
 }
@@ -82,6 +84,7 @@ pub fn line(t: &[u8]) -> String {
         ROW => "row ".to_string() + &trunks,
         CHANNEL => "channel ".to_string() + &trunks,
         BOX => format!("box length {n} width {w} nets {nets} across {across} up {up} layers {layers} floor {floor}\n"),
+        TWO_LAYER => format!("two-layer length {n} nets {nets} across {across} layers {layers}\n"),
         other => no_kind(other),
     }
 }

@@ -1,6 +1,7 @@
 //! Tickets to try: the document's own, random good ones, and garbled ones.
 
-use crate::{no_kind, places, rules, BOX, CHANNEL, EAST, LARGEST_NET, LONGEST_SIDE, MOST_TRUNK_LAYERS, NORTH, ROW, SOUTH, WEST};
+use crate::{no_kind, places, rules};
+use crate::{BOX, CHANNEL, EAST, LARGEST_NET, LONGEST_SIDE, MOST_TRUNK_LAYERS, NORTH, ROW, SOUTH, TWO_LAYER, WEST};
 use std::collections::BTreeMap;
 
 /// A small linear congruential generator, so that every machine makes the same.
@@ -77,17 +78,150 @@ pub fn of_shape(r: &mut Numbers, kind: u8, n: usize, byte2: usize, tenths: usize
 }
 
 pub fn random(r: &mut Numbers) -> Vec<u8> {
-    let kind = r.pick(&[ROW, CHANNEL, BOX]);
+    let kind = r.pick(&[ROW, CHANNEL, BOX, TWO_LAYER]);
     let longest = r.pick(&[4, 12, LONGEST_SIDE]);
     let n = 1 + r.below(longest);
-    let widest = match kind {
+    let largest = match kind {
         ROW | CHANNEL => MOST_TRUNK_LAYERS,
         BOX => r.pick(&[4, 12, LONGEST_SIDE]),
+        TWO_LAYER => return two_layer(r, n),
         other => no_kind(other),
     };
-    let byte2 = 1 + r.below(widest);
+    let byte2 = 1 + r.below(largest);
     let tenths = r.below(11);
     of_shape(r, kind, n, byte2, tenths)
+}
+
+/// A two-layer channel of length n of any of the sorts below.
+pub fn two_layer(r: &mut Numbers, n: usize) -> Vec<u8> {
+    let tenths = r.below(11);
+    match r.below(10) {
+        0 | 1 => of_shape(r, TWO_LAYER, n, 1, tenths),
+        2 => of_shape(r, TWO_LAYER, n, 1, 10),
+        3 => solid(r, n),
+        4 => a_net_less(r, n),
+        5 => a_pin_less(r, n),
+        6 => one_sided_pair(r, n),
+        7 => straight(r, n),
+        8 => long_nets(r, n),
+        _ => rings(n),
+    }
+}
+
+fn two_layer_of(north: &[u8], south: &[u8]) -> Vec<u8> {
+    let on = |side: usize, nets: &[u8]| -> Places { nets.iter().enumerate().map(|(i, m)| ((side, i + 1), *m)).collect() };
+    let pins: Places = on(NORTH, north).into_iter().chain(on(SOUTH, south)).filter(|(_, m)| *m != 0).collect();
+    encode(TWO_LAYER, north.len(), 1, &pins)
+}
+
+/// So many net numbers in any order.
+fn names(r: &mut Numbers, size: usize) -> Vec<u8> {
+    let mut out: Vec<u8> = (1..=LARGEST_NET).collect();
+    r.shuffle(&mut out);
+    out.truncate(size);
+    out
+}
+
+/// Every net once on either side, in two orders; of n 1, where there is only one, in this.
+fn solid_sides(r: &mut Numbers, n: usize) -> (Vec<u8>, Vec<u8>) {
+    let north = names(r, n);
+    let mut south = north.clone();
+    r.shuffle(&mut south);
+    if south == north {
+        south.rotate_left(1);
+    }
+    (north, south)
+}
+
+fn replace(side: &mut [u8], old: u8, new: u8) {
+    side.iter_mut().filter(|m| **m == old).for_each(|m| *m = new);
+}
+
+/// All places filled, every net with one north and one south pin; from n 2 on not all of them straight.
+pub fn solid(r: &mut Numbers, n: usize) -> Vec<u8> {
+    let (north, south) = solid_sides(r, n);
+    two_layer_of(&north, &south)
+}
+
+/// A solid one without one of its nets.
+pub fn a_net_less(r: &mut Numbers, n: usize) -> Vec<u8> {
+    let (mut north, mut south) = solid_sides(r, n);
+    let gone = r.pick(&north);
+    replace(&mut north, gone, 0);
+    replace(&mut south, gone, 0);
+    two_layer_of(&north, &south)
+}
+
+/// A solid one without one of its pins, whose net's other pin another net has instead; of n 1, where there is no other, none.
+pub fn a_pin_less(r: &mut Numbers, n: usize) -> Vec<u8> {
+    let (mut north, mut south) = solid_sides(r, n);
+    let at = r.below(n);
+    let (gone, other) = (north[at], if n > 1 { north[(at + 1) % n] } else { 0 });
+    let (emptied, given) = if r.below(2) == 0 { (&mut north, &mut south) } else { (&mut south, &mut north) };
+    replace(emptied, gone, 0);
+    replace(given, gone, other);
+    two_layer_of(&north, &south)
+}
+
+/// All places filled, but one net with two north pins and one with two south pins instead of one on either side; a solid one
+/// where it picks one net twice.
+pub fn one_sided_pair(r: &mut Numbers, n: usize) -> Vec<u8> {
+    let (mut north, mut south) = solid_sides(r, n);
+    let (a, b) = (r.pick(&south), r.pick(&south));
+    replace(&mut north, b, a);
+    replace(&mut south, a, b);
+    two_layer_of(&north, &south)
+}
+
+/// Every net has both places of one column.
+pub fn straight(r: &mut Numbers, n: usize) -> Vec<u8> {
+    let tenths = r.below(11);
+    let nets: Vec<u8> = names(r, n).into_iter().map(|m| if r.below(10) < tenths { m } else { 0 }).collect();
+    two_layer_of(&nets, &nets)
+}
+
+/// Few nets with pins all along both sides.
+pub fn long_nets(r: &mut Numbers, n: usize) -> Vec<u8> {
+    let few = 1 + r.below(n.min(6));
+    let nets = names(r, few);
+    let mut on_side = || -> Vec<u8> {
+        let mut out: Vec<u8> = nets.iter().copied().cycle().take(n).collect();
+        r.shuffle(&mut out);
+        out
+    };
+    let (north, south) = (on_side(), on_side());
+    two_layer_of(&north, &south)
+}
+
+/// Nets of two north and two south pins, the first ones of each ring of two, or of three at the end, in each other's columns:
+/// no ticket is known to be harder on the bound of 7 tracks for every 4 columns. A length under 4 has no nets.
+pub fn rings(n: usize) -> Vec<u8> {
+    let (mut north, mut south) = (Vec::new(), Vec::new());
+    let mut next = 1;
+    while n - north.len() >= 4 {
+        let size = if n - north.len() == 6 || n - north.len() == 7 { 3 } else { 2 };
+        let ring: Vec<u8> = (next..next + size).collect();
+        let turned = [&ring[1..], &ring[..1]].concat();
+        north.extend([&ring[..], &ring[..]].concat());
+        south.extend([&turned[..], &turned[..]].concat());
+        next += size;
+    }
+    north.resize(n, 0);
+    south.resize(n, 0);
+    two_layer_of(&north, &south)
+}
+
+/// Every two-layer channel of length n, up to the nets' numbers: each place takes a net that an earlier place has, or the next
+/// one, and is empty where no other has the same.
+pub fn every_two_layer(n: usize) -> Vec<Vec<u8>> {
+    let mut lists: Vec<Vec<u8>> = vec![vec![]];
+    for _ in 0..2 * n {
+        let next = |x: &[u8]| x.iter().max().map_or(1, |m| m + 1);
+        lists = lists.iter().flat_map(|x| (1..=next(x)).map(|m| [&x[..], &[m]].concat())).collect();
+    }
+    let paired = |x: &[u8], m: u8| if x.iter().filter(|a| **a == m).count() > 1 { m } else { 0 };
+    let filled = |x: Vec<u8>| -> Vec<u8> { x.iter().map(|m| paired(&x, *m)).collect() };
+    lists.into_iter().map(filled).map(|x| two_layer_of(&x[..n], &x[n..])).collect()
 }
 
 /// A box all of whose nets are on just the sides a and b.

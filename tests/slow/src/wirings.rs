@@ -3,7 +3,7 @@
 use crate::judge::Grid;
 use crate::maze::route;
 use crate::tickets::{of_shape, Numbers};
-use crate::{no_kind, read, BOX, CHANNEL, MOST_TRUNK_LAYERS, ROW};
+use crate::{no_kind, read, BOX, CHANNEL, MOST_TRUNK_LAYERS, ROW, TWO_LAYER};
 
 /// A wiring for Check: its ticket, its sizes, and the length of the scratch.
 pub struct Case {
@@ -22,11 +22,12 @@ pub fn case(ticket: &[u8], w: usize, k: usize, first: bool, wiring: Vec<u8>) -> 
 /// A random small ticket with a legal wiring.
 pub fn wired(r: &mut Numbers) -> Case {
     loop {
-        let kind = r.pick(&[ROW, CHANNEL, BOX]);
+        let kind = r.pick(&[ROW, CHANNEL, BOX, TWO_LAYER]);
         let g = Grid { n: 1 + r.below(9), w: 1 + r.below(6), k: 1 + r.below(7), first: r.below(2) == 1 };
         let byte2 = match kind {
             ROW | CHANNEL => 1 + r.below(MOST_TRUNK_LAYERS),
             BOX => g.w,
+            TWO_LAYER => 1,
             other => no_kind(other),
         };
         let tenths = r.below(8);

@@ -4,12 +4,14 @@ use slow::judge::judge;
 use slow::lay::lay;
 use slow::read::read;
 use slow::tickets::{corner, encode, of_shape, random, slots, Numbers, DOCUMENT};
-use slow::{BOX, CHANNEL, EAST, LONGEST_SIDE, LONGEST_TICKET, MOST_TRUNK_LAYERS, NORTH, ROW, SOUTH, WEST};
+use slow::two_layer::is_solid;
+use slow::{Refusal, BOX, CHANNEL, EAST, LONGEST_SIDE, LONGEST_TICKET, MOST_TRUNK_LAYERS, NORTH, ROW, SOUTH, TWO_LAYER, WEST};
 
 fn legal(t: &[u8]) {
-    if let Ok(ticket) = read(t) {
-        let (g, x) = lay(&ticket);
-        assert_eq!(judge(g, &ticket.pins, &x), Ok(()), "{t:?}");
+    let Ok(ticket) = read(t) else { return };
+    match lay(&ticket) {
+        Ok((g, x)) => assert_eq!(judge(g, &ticket.pins, &x), Ok(()), "{t:?}"),
+        Err(refusal) => assert_eq!((refusal, ticket.kind, is_solid(&ticket)), (Refusal(17, 0), TWO_LAYER, true), "{t:?}"),
     }
 }
 

@@ -1,10 +1,10 @@
 //! A plain flood fill with an explicit stack: what Check does, written for speed and without its promises or its limit to
 //! one byte of memory a point.
 
-use slow::{no_side, read, EAST, LONGEST_SIDE, MOST_LAYERS, NORTH, SOUTH, WEST, WIDEST_GRID};
+use slow::{no_side, read, EAST, LONGEST_SIDE, MOST_LAYERS, NORTH, SOUTH, WEST};
 
 const N: usize = LONGEST_SIDE;
-const W: usize = WIDEST_GRID;
+const W: usize = LONGEST_SIDE;
 const K: usize = MOST_LAYERS;
 const AREA: usize = N * W;
 

@@ -1,7 +1,7 @@
 //! Ratios of one run, never a timed test: `cargo run --release --example bench` prints the tables of docs/BENCHMARKS.md.
 //!
 //! Lay is held against plain code for the same construction and, as the limit to look at, against memset of the bytes that it
-//! writes; Check against a plain flood fill of the same wiring.
+//! writes; of two-layer channels against Lay of a channel; Check against a plain flood fill of the same wiring.
 
 mod flood;
 mod plain;
@@ -9,8 +9,8 @@ mod wirings;
 
 use flood::Flood;
 use pozqaben::{check_with, lay_into, read, survey};
-use slow::tickets::{of_shape, Numbers};
-use slow::{BOX, CHANNEL, LONGEST_SIDE, MOST_LAYERS, ROW, WIDEST_GRID};
+use slow::tickets::{a_net_less, a_pin_less, encode, of_shape, rings, slots, Numbers, Places};
+use slow::{BOX, CHANNEL, LONGEST_SIDE, MOST_LAYERS, ROW, TWO_LAYER};
 use std::cell::{Cell, RefCell, RefMut};
 use std::hint::black_box;
 
@@ -65,7 +65,7 @@ fn seconds_of<const N: usize>(mut calls: [&mut dyn FnMut(); N]) -> [f64; N] {
 /// Lay, the plain router and memset into the same buffer over and over, or into each part of a memory in turn.
 fn lay_row(ticket: &[u8], memory: &mut [u8]) -> [f64; 3] {
     let read = slow::read::read(ticket).expect("a good ticket");
-    let g = slow::lay::grid(&read);
+    let g = slow::lay::grid(&read).expect("a row, a channel or a box");
     let size = g.size();
     let memory = RefCell::new(memory);
     let part = Cell::new(0);
@@ -112,8 +112,44 @@ fn lay_tables(r: &mut Numbers) {
     }
 }
 
+/// Every place filled, by nets of four pins anywhere.
+fn nets_of_four(r: &mut Numbers, n: usize) -> Vec<u8> {
+    let mut free = slots(TWO_LAYER, n, 1);
+    r.shuffle(&mut free);
+    let pins: Places = free.into_iter().enumerate().map(|(i, place)| (place, 1 + i as u8 / 4)).collect();
+    encode(TWO_LAYER, n, 1, &pins)
+}
+
+/// Two-layer channels, beside a full channel in the same turns.
+fn two_layer_table(r: &mut Numbers) {
+    let side = LONGEST_SIDE;
+    let channel = of_shape(r, CHANNEL, side, 1, 10);
+    let tickets = [
+        ("full, nets of four pins", nets_of_four(r, side)),
+        ("full, nets of four pins in rings", rings(side)),
+        ("solid but for a pin", a_pin_less(r, side)),
+        ("solid but for a net", a_net_less(r, side)),
+    ];
+    println!("| lay, two-layer channel of {side} | tracks | bytes | lay, µs | full channel of {side}, h 1, µs | lay / channel |");
+    println!("|---|---|---|---|---|---|");
+    for (name, ticket) in tickets {
+        let (laid, mut wiring) = pozqaben::lay(&ticket).expect("a two-layer channel that is not solid");
+        let (_, mut beside) = pozqaben::lay(&channel).expect("a good ticket");
+        let lay = &mut || {
+            lay_into(black_box(&ticket), black_box(&mut wiring)).expect("a good ticket");
+        };
+        let lay_channel = &mut || {
+            lay_into(black_box(&channel), black_box(&mut beside)).expect("a good ticket");
+        };
+        let [lay, lay_channel] = seconds_of([lay, lay_channel]);
+        let [a, b] = [lay, lay_channel].map(|time| time * 1e6);
+        println!("| {name} | {} | {} | {a:.2} | {b:.2} | {:.2} |", laid.w, laid.size(), lay / lay_channel);
+    }
+    println!();
+}
+
 fn check_table(r: &mut Numbers) {
-    let (w, k) = (WIDEST_GRID, MOST_LAYERS);
+    let (w, k) = (LONGEST_SIDE, MOST_LAYERS);
     println!("| check, {LONGEST_SIDE} × {w} × {k} | verdict | check, ms | flood fill, ms | check / flood fill |\n|---|---|---|---|---|");
     let mut scratch = vec![0; LONGEST_SIDE * w * k];
     let mut flood = Flood::new();
@@ -135,8 +171,13 @@ fn check_table(r: &mut Numbers) {
 fn call_table(r: &mut Numbers) {
     println!("\n| ticket | bytes | read, calls a second | survey, calls a second |\n|---|---|---|---|");
     let side = LONGEST_SIDE;
-    let shapes =
-        [("box 4 × 1", BOX, 4, 1), ("row of 90", ROW, side, 1), ("channel of 90", CHANNEL, side, 1), ("box 90 × 90", BOX, side, side)];
+    let shapes = [
+        ("box 4 × 1", BOX, 4, 1),
+        ("row of 90", ROW, side, 1),
+        ("channel of 90", CHANNEL, side, 1),
+        ("two-layer channel of 90", TWO_LAYER, side, 1),
+        ("box 90 × 90", BOX, side, side),
+    ];
     for (name, kind, n, byte2) in shapes {
         let ticket = of_shape(r, kind, n, byte2, 10);
         let reading = &mut || {
@@ -154,6 +195,7 @@ fn main() {
     let r = &mut Numbers::new(601);
     println!("{} cores\n", std::thread::available_parallelism().map_or(1, |c| c.get()));
     lay_tables(r);
+    two_layer_table(r);
     check_table(r);
     call_table(r);
 }

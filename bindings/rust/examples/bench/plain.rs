@@ -2,7 +2,7 @@
 //! figures and without its promises. Lines run from end to end, as Lay's do.
 
 use slow::judge::Grid;
-use slow::{no_kind, Ticket, BOX, CHANNEL, EAST, LARGEST_NET, LONGEST_SIDE, NORTH, ROW, SOUTH, WEST};
+use slow::{no_kind, Ticket, BOX, CHANNEL, EAST, LARGEST_NET, LONGEST_SIDE, NORTH, ROW, SOUTH, TWO_LAYER, WEST};
 
 /// One more than the nets' numbers, for tables with an entry for each.
 const NETS: usize = LARGEST_NET as usize + 1;
@@ -20,6 +20,7 @@ pub fn lay(t: &Ticket, g: Grid, x: &mut [u8]) {
         CHANNEL => lay_trunks(t, g, &north[..n], &south[..n], x),
         BOX if n < w => lay_box([&east[..w], &west[..w], &south[..n], &north[..n]], true, x),
         BOX => lay_box([&north[..n], &south[..n], &west[..w], &east[..w]], false, x),
+        TWO_LAYER => unreachable!("two-layer channels are held against a channel"),
         other => no_kind(other),
     }
 }

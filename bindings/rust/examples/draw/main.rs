@@ -110,11 +110,12 @@ impl Panel<'_> {
     }
 }
 
-/// What no legal wiring of the ticket beats.
+/// What no legal wiring of the ticket beats; nothing is claimed so of a two-layer channel.
 fn bound(s: &Survey) -> String {
     match s.kind {
         Kind::Box => format!("floor {}: every legal wiring of this box has at least so many layers", s.floor),
         Kind::Row | Kind::Channel => format!("{} tracks: no legal wiring with as many horizontal layers has fewer", s.w),
+        Kind::TwoLayer => "two layers: at most 7 tracks for every 4 columns, and others may have fewer".to_string(),
     }
 }
 

@@ -2,8 +2,8 @@
 #![allow(dead_code)]
 
 use pozqaben::raw;
-use slow::tickets::{damaged, encode, of_shape, random, slots, Numbers, Places, DOCUMENT};
-use slow::{BOX, CHANNEL, LARGEST_NET, LONGEST_SIDE, LONGEST_TICKET, MOST_TRUNK_LAYERS, ROW};
+use slow::tickets::{damaged, encode, of_shape, random, rings, slots, solid, Numbers, Places, DOCUMENT};
+use slow::{BOX, CHANNEL, LARGEST_NET, LONGEST_SIDE, LONGEST_TICKET, MOST_TRUNK_LAYERS, ROW, TWO_LAYER};
 
 pub fn read(ticket: &[u8], answer: &mut [u64]) -> bool {
     unsafe { raw::pozqaben_read(ticket.as_ptr(), ticket.len(), answer.as_mut_ptr(), answer.len()) }
@@ -86,7 +86,8 @@ pub fn ticket(r: &mut Numbers) -> Vec<u8> {
             }
         }
         _ => {
-            let (kind, n, byte2, sides) = (r.below(BOX as usize + 2), r.below(LONGEST_SIDE + 3), r.below(LONGEST_SIDE + 3), r.below(17));
+            let kind = r.below(TWO_LAYER as usize + 2);
+            let (n, byte2, sides) = (r.below(LONGEST_SIDE + 3), r.below(LONGEST_SIDE + 3), r.below(17));
             let mut t = [kind, n, byte2, sides].map(|x| x as u8).to_vec();
             let top = r.pick(&[2, 8, LARGEST_NET as usize + 10, 256]);
             t.extend((0..r.below(40)).map(|_| r.below(top) as u8));
@@ -102,17 +103,19 @@ pub fn extremes() -> Vec<Vec<u8>> {
     let (side, most) = (LONGEST_SIDE, MOST_TRUNK_LAYERS);
     let trunks = [(ROW, 1, 1), (ROW, side, 1), (ROW, side, most), (CHANNEL, 1, most), (CHANNEL, side, 1), (CHANNEL, side, most)];
     let boxes = [(1, 1), (1, side), (side, 1), (side, side), (side - 1, side)].map(|(n, w)| (BOX, n, w));
-    for (kind, n, byte2) in trunks.into_iter().chain(boxes) {
+    let two_layers = [1, 2, side].map(|n| (TWO_LAYER, n, 1));
+    for (kind, n, byte2) in trunks.into_iter().chain(boxes).chain(two_layers) {
         out.extend([0, 2, 5, 8, 10].map(|tenths| of_shape(r, kind, n, byte2, tenths)));
     }
+    out.extend([rings(side), rings(side - 1), solid(r, 2), solid(r, side)]);
     let full = |net: fn(usize, usize) -> u8| -> Places { slots(BOX, side, side).into_iter().map(|(s, i)| ((s, i), net(s, i))).collect() };
     out.push(encode(BOX, side, side, &full(|s, i| (2 * i - s % 2) as u8)));
     out.push(encode(BOX, side, side, &full(|_, _| LARGEST_NET)));
     out.extend([vec![], vec![0; 1000], vec![255; 1000], vec![BOX; LONGEST_TICKET + 1]]);
     let (side, most) = (side as u8, most as u8);
-    for kind in [0, ROW, CHANNEL, BOX, BOX + 1, 255] {
+    for kind in [0, ROW, CHANNEL, BOX, TWO_LAYER, TWO_LAYER + 1, 255] {
         for n in [0, 1, side, side + 1, 255] {
-            for byte2 in [0, 1, most, most + 1, side, side + 1, 255] {
+            for byte2 in [0, 1, 2, most, most + 1, side, side + 1, 255] {
                 out.extend([0, 1, 3, 15, 16, 255].map(|sides| vec![kind, n, byte2, sides]));
             }
         }

@@ -5,6 +5,7 @@ use native.Mathlib.Omega.{arith}
 use borrow.Author.Needs.{needs}
 use lib.ListN.{length, length-set, length-replicate}
 use denote.Ref.{now}
+use Rattle.sweep.specs.Edges.{pinPlaces}
 use Rattle.checker.specs.Marking.{Opened}
 use Rattle.checker.proofs.Scans.{opened-start, opened-at, opened-all}
 use Rattle.checker.proofs.open_nets.Statement.{statement}
@@ -75,7 +76,7 @@ returns : tie.Need-returns Inv-loop μ-loop
 returns c =
     let loop = c .before .loop in
     let pre = c .before .before .before .before .pre in
-    opened-all _ _ _ (loop .a) 360 (omega (arith, pre, loop .inv .0, loop .inv .1, c .loop-test .left)) (loop .inv .4)
+    opened-all _ _ _ (loop .a) pinPlaces (omega (arith, pre, loop .inv .0, loop .inv .1, c .loop-test .left)) (loop .inv .4)
 
 pub open-nets-spec : {M : Type 1} → statement M
 open-nets-spec =

@@ -2,6 +2,8 @@
 use Prim.Native.Nat.{ℕ}
 use borrow.Author.Needs.{needs}
 use lib.ListN.{length-replicate}
+use Rattle.counting.proofs.Lists.{zeros-at}
+use Rattle.sweep.specs.Edges.{pinPlaces}
 use Rattle.checker.proofs.Lists.{pin-list}
 use Rattle.checker.proofs.pin_list.Statement.{statement}
 use Rattle.checker.proofs.pin_list.Tie as tie
@@ -13,7 +15,8 @@ returns c =
     let put2 = c .before .before .put2 in
     let put3 = c .before .put3 in
     let put4 = c .put4 in
-    pin-list (args .pins) _ (put .result) (put2 .result) (put3 .result) (put4 .result) (length-replicate {A = ℕ} 360 0) (put .ensures) (put2 .ensures)
+    pin-list (args .pins) _ (put .result) (put2 .result) (put3 .result) (put4 .result) (length-replicate {A = ℕ} pinPlaces 0)
+    (zeros-at pinPlaces) (put .ensures) (put2 .ensures)
     (put3 .ensures) (put4 .ensures)
 
 pub pin-list-spec : {M : Type 1} → statement M

@@ -24,7 +24,7 @@ sizes c =
     let two = c .before .before .before .before .before .before .wide .ensures in
     record {
       columns = rw (c .before .column-count .ensures) (good .columns);
-      width = rw (c .by-kind .ensures ∙ ap (byKind (a .kind) 1 1 1) two) (width-in a good);
+      width = rw (c .by-kind .ensures ∙ ap (λ (v : ℕ). byKind (a .kind) 1 1 1 v 1) two) (width-in a good);
       second = rw two (byte2-in a good);
     }
 

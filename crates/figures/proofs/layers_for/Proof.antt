@@ -9,7 +9,7 @@ use Rattle.figures.proofs.layers_for.Tie as tie
 returns : tie.Need-returns
 returns c =
     let a = c .before .before .args in
-    c .by-kind .ensures ∙ ap (λ (q : ℕ). byKind (a .kind) 0 (2 * a .byte2) (2 * a .byte2 + 1) (2 * q + 4)) (c .before .quotient .ensures .0)
+    c .by-kind .ensures ∙ ap (λ (q : ℕ). byKind (a .kind) 0 (2 * a .byte2) (2 * a .byte2 + 1) (2 * q + 4) 2) (c .before .quotient .ensures .0)
 
 pub layers-for-spec : {M : Type 1} → statement M
 layers-for-spec =

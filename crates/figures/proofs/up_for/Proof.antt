@@ -9,7 +9,7 @@ density-requires : tie.Need-density-requires
 density-requires c κs = (c .before .pre .1, c .before .pre .0)
 
 returns : tie.Need-returns
-returns c = (c .density .ensures .0 ∙ sym (of-box (c .before .before .args .kind) 0 0 0 _ (c .before .if1 .taken)), c .density .ensures .1)
+returns c = (c .density .ensures .0 ∙ sym (of-box (c .before .before .args .kind) 0 0 0 _ 0 (c .before .if1 .taken)), c .density .ensures .1)
 
 returns-2 : tie.Need-returns-2
 returns-2 c = (sym (boxes-only (c .before .args .kind) 0 _ (c .if1 .left)), omega arith)

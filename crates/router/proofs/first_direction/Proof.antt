@@ -11,7 +11,7 @@ returns : tie.Need-returns
 returns c =
     let q = c .before .before .before .before .args .q in
     c .is-turned .ensures ∙ ap (ltb (q .n .0)) (c .before .wide .ensures) ∙ sym
-    (of-box (q .kind) false false false (ltb (q .n .0) (q .byte2)) (c .before .before .if1 .taken))
+    (of-box (q .kind) false false false (ltb (q .n .0) (q .byte2)) false (c .before .before .if1 .taken))
 
 returns-2 : tie.Need-returns-2
 returns-2 c = sym (boxes-only (c .before .before .args .q .kind) false _ (c .if1 .left))

@@ -45,13 +45,27 @@ returns-4 c = (
 
 returns-5 : tie.Need-returns-5
 unfolding lineFor
-returns-5 c = (
+returns-5 c = let c3 = c .before .before .before in let c7 = c3 .before .before .before .before in (
   rw (
-    eq-eqb _ _ (c .before .before .before .before .before .before .before .if1 .left),
-    ne-eqb _ _
-        (c .before .before .before .before .before .if2 .left),
-    ne-eqb _ _ (c .before .before .before .if3 .left),
-    ne-eqb _ _ (c .before .if4 .left),
+    eq-eqb _ _ (c7 .before .before .if1 .left),
+    ne-eqb _ _ (c7 .if2 .left),
+    ne-eqb _ _ (c3 .before .before .if3 .left),
+    ne-eqb _ _ (c3 .if4 .left),
+    eq-eqb _ _ (c .before .if5 .taken),
+  )
+      (c .two-layer-line .ensures .0),
+  c .two-layer-line .ensures .1,
+)
+
+returns-6 : tie.Need-returns-6
+unfolding lineFor
+returns-6 c = let c3 = c .before .before .before in let c7 = c3 .before .before .before .before in (
+  rw (
+    eq-eqb _ _ (c7 .before .before .if1 .left),
+    ne-eqb _ _ (c7 .if2 .left),
+    ne-eqb _ _ (c3 .before .before .if3 .left),
+    ne-eqb _ _ (c3 .if4 .left),
+    ne-eqb _ _ (c .before .if5 .left),
   )
       (c .blank .ensures),
   omega (arith, c .blank .ensures .size),
@@ -60,4 +74,4 @@ returns-5 c = (
 pub line-for-spec : {M : Type 1} → statement M
 line-for-spec =
     tie.close (tie.spec (λ c κs. search needs) returns (λ c. search needs) (λ c κs. search needs) returns-2 (λ c. search needs)
-    (λ c κs. search needs) returns-3 (λ c κs. search needs) returns-4 (λ c κs. search needs) returns-5)
+    (λ c κs. search needs) returns-3 (λ c κs. search needs) returns-4 (λ c κs. search needs) returns-5 (λ c κs. search needs) returns-6)

@@ -8,7 +8,7 @@ use lib.ListN.{getD}
 use borrow.Author.Needs.{needs}
 use Rattle.terms.specs.Limits.{largestNet}
 use Rattle.ticket.proofs.Flags.{neither}
-use Rattle.ticket.proofs.Laws.{least-none, least-more}
+use Rattle.counting.proofs.Leasts.{least-start, least-more}
 use Rattle.counting.specs.Counting.{least}
 use Rattle.ticket.proofs.has_lone.Statement.{statement}
 use Rattle.ticket.proofs.has_lone.Tie as tie
@@ -20,7 +20,7 @@ abbrev μ-loop : tie.MeasureT-loop
 μ-loop counts some₀ v₀ some v = largestNet - v
 
 loop-holds : tie.Need-loop-holds Inv-loop μ-loop
-loop-holds c = (omega arith, λ h. least-none _)
+loop-holds c = (omega arith, λ h. least-start _)
 
 loop-again : tie.Need-loop-again Inv-loop μ-loop
 loop-again c =

@@ -6,7 +6,8 @@ use denote.Ref.{now}
 use borrow.Author.Needs.{needs}
 use Rattle.counting.proofs.Counts.{count-same}
 use Rattle.terms.specs.Limits.{largestNet}
-use Rattle.ticket.proofs.Laws.{least-same, turned-down, going-on}
+use Rattle.counting.proofs.Leasts.{least-same}
+use Rattle.ticket.proofs.Laws.{turned-down, going-on}
 use Rattle.ticket.specs.Read.{pinsAt, acceptedReading, problemAt, noLone}
 use Rattle.problem.specs.declared.Pins.{Pins}
 use Rattle.problem.specs.Problem.{pinsIn, pinCount}
@@ -18,7 +19,7 @@ returns c =
     let a = c .before .before .before .before .before .before .before .args in
     let p = pinsIn (pinsAt (now (a .ticket)) (a .ends)) in
     let alone = c .before .before .before .before .lone-net .ensures ∙ least-same _ (λ m. eqb (pinCount p m) 1) largestNet
-    (λ v lo hi. ap (λ (k : ℕ). eqb k 1) (c .before .before .before .before .before .tally-all .ensures v (lo, hi))) in
+    (λ v i. ap (λ (k : ℕ). eqb k 1) (c .before .before .before .before .before .tally-all .ensures v i)) in
     turned-down _ (c .before .before .before .no-lone .ensures ∙ ap noLone alone) (c .before .if1 .taken) (c .refused .ensures)
 
 returns-2 : tie.Need-returns-2
@@ -29,7 +30,7 @@ returns-2 c =
     let ps = pinsAt s (a .ends) in
     let p = pinsIn ps in
     let alone = c .before .before .before .before .before .before .lone-net .ensures ∙ least-same _ (λ m. eqb (pinCount p m) 1) largestNet
-    (λ v lo hi. ap (λ (k : ℕ). eqb k 1) (c7 .tally-all .ensures v (lo, hi))) in
+    (λ v i. ap (λ (k : ℕ). eqb k 1) (c7 .tally-all .ensures v i)) in
     let many = c .before .before .distinct .ensures ∙ count-same _ (λ m. leb 1 (pinCount p m)) largestNet
     (λ v i. ap (leb 1) (c7 .tally-all .ensures v i)) in
     c .accepted .ensures ∙ ap₂ (λ (k : ℕ) (ps : Pins). acceptedReading (problemAt s k ps)) many (c .before .pins-at .ensures) ∙ sym

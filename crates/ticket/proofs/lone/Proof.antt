@@ -7,7 +7,7 @@ use lib.ListN.{getD}
 use borrow.Author.Tests.{eq-eqb, ne-eqb}
 use borrow.Author.Needs.{needs}
 use Rattle.terms.specs.Limits.{largestNet}
-use Rattle.ticket.proofs.Laws.{least-none, least-more, least-here}
+use Rattle.counting.proofs.Leasts.{least-start, least-more, least-here}
 use Rattle.counting.specs.Counting.{least}
 use Rattle.ticket.proofs.lone.Statement.{statement}
 use Rattle.ticket.proofs.lone.Tie as tie
@@ -19,7 +19,7 @@ abbrev μ-loop : tie.MeasureT-loop
 μ-loop counts v₀ v = largestNet - v
 
 loop-holds : tie.Need-loop-holds Inv-loop μ-loop
-loop-holds c = (least-none _, omega arith)
+loop-holds c = (least-start _, omega arith)
 
 returns : tie.Need-returns Inv-loop μ-loop
 returns c = sym (least-here _ (c .before .before .loop .v) largestNet (c .before .loop-test .taken) (c .before .before .loop .inv .0)

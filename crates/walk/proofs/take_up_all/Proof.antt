@@ -6,17 +6,17 @@ use borrow.Author.Needs.{needs}
 use lib.ListN.{length}
 use Rattle.grid.specs.Grid.{gridOf}
 use Rattle.sweep.specs.Marks.{val, two, Grown}
-use Rattle.sweep.specs.Edges.{Edges}
+use Rattle.sweep.specs.Edges.{Edges, pinPlaces}
 use Rattle.sweep.proofs.Settling.{grown-none, grown-then}
 use Rattle.walk.proofs.take_up_all.Statement.{statement}
 use Rattle.walk.proofs.take_up_all.Tie as tie
 
 abbrev Inv-loop : tie.InvT-loop
-Inv-loop p s₀ x m₀ f waited₀ a₀ s m waited a = (a ≤ 360) × (waited ≤ a) × (length s ≡ length s₀) × (length m ≡ length m₀) × Grown (val p x) (two s₀ m₀)
+Inv-loop p s₀ x m₀ f waited₀ a₀ s m waited a = (a ≤ pinPlaces) × (waited ≤ a) × (length s ≡ length s₀) × (length m ≡ length m₀) × Grown (val p x) (two s₀ m₀)
     (two s m) (Edges (gridOf f))
 
 abbrev μ-loop : tie.MeasureT-loop
-μ-loop p s₀ x m₀ f waited₀ a₀ s m waited a = 360 - a
+μ-loop p s₀ x m₀ f waited₀ a₀ s m waited a = pinPlaces - a
 
 loop-holds : tie.Need-loop-holds Inv-loop μ-loop
 loop-holds c = (search needs, search needs, refl, refl, grown-none)

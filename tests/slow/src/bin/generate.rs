@@ -2,12 +2,11 @@
 //!
 //!     cargo run --manifest-path tests/slow/Cargo.toml --bin generate [-- --check]
 
-use slow::judge;
+use slow::judge::{self, Grid};
 use slow::tickets::{self, damaged, encode, of_shape, Numbers, Places, DOCUMENT};
 use slow::wirings::{case, layered, spoiled, wired, Case};
-use slow::{
-    lay, read, survey, BOX, CHANNEL, EAST, LARGEST_NET, LONGEST_SIDE, MOST_LAYERS, MOST_TRUNK_LAYERS, NORTH, ROW, SOUTH, WEST, WIDEST_GRID,
-};
+use slow::{lay, no_kind, read, survey, two_layer, Refusal, Ticket, BOX, CHANNEL, EAST, NORTH, ROW, SOUTH, TWO_LAYER, WEST};
+use slow::{LARGEST_NET, LONGEST_SIDE, MOST_LAYERS, MOST_TRUNK_LAYERS, WIDEST_CHANNEL, WIDEST_GRID};
 use std::path::Path;
 
 fn record(t: &[u8]) -> Vec<u8> {
@@ -25,30 +24,46 @@ fn document() -> Vec<Vec<u8>> {
     DOCUMENT.iter().map(|(_, t)| t.to_vec()).collect()
 }
 
+/// Two-layer channels of every sort, the shortest and the longest, solid and nearly so.
+fn two_layers(r: &mut Numbers) -> Vec<Vec<u8>> {
+    let mut out = vec![encode(TWO_LAYER, 1, 1, &Places::new()), encode(TWO_LAYER, LONGEST_SIDE, 1, &Places::new())];
+    out.extend([4, 5, 6, 7, LONGEST_SIDE].map(tickets::rings));
+    let sorts = [tickets::solid, tickets::a_net_less, tickets::a_pin_less, tickets::one_sided_pair, tickets::straight, tickets::long_nets];
+    for make in sorts {
+        out.extend([1, 2, 3, 8].map(|n| make(r, n)));
+    }
+    out.push(tickets::solid(r, LONGEST_SIDE));
+    out.push(tickets::a_pin_less(r, LONGEST_SIDE));
+    out.push(of_shape(r, TWO_LAYER, LONGEST_SIDE, 1, 10));
+    out
+}
+
 fn read_tickets() -> Vec<Vec<u8>> {
     let r = &mut Numbers::new(3);
     let mut out = vec![vec![]];
     out.extend(document());
     let large = of_shape(r, BOX, 13, 9, 7);
-    for t in [DOCUMENT[0].1, DOCUMENT[4].1, DOCUMENT[8].1, &large] {
+    for t in [DOCUMENT[0].1, DOCUMENT[4].1, DOCUMENT[8].1, &large, &tickets::rings(9)] {
         out.extend((0..=t.len()).map(|size| t[..size].to_vec()));
     }
-    for kind in [0, ROW, CHANNEL, BOX, BOX + 1, 128, 255] {
+    for kind in [0, ROW, CHANNEL, BOX, TWO_LAYER, TWO_LAYER + 1, 128, 255] {
         out.extend([0, 1, 2, 3, 4, 15, 16, 255].map(|sides| vec![kind, 2, 1, sides]));
     }
     let (longest, most) = (LONGEST_SIDE as u8, MOST_TRUNK_LAYERS as u8);
-    for kind in [ROW, CHANNEL, BOX] {
+    for kind in [ROW, CHANNEL, BOX, TWO_LAYER] {
         for n in [0, 1, longest, longest + 1, 255] {
-            out.extend([0, 1, most, most + 1, longest, longest + 1].map(|byte2| vec![kind, n, byte2, 0]));
+            out.extend([0, 1, 2, most, most + 1, longest, longest + 1].map(|byte2| vec![kind, n, byte2, 0]));
         }
     }
-    for places in [1, 7, 8, 9, 15, 16, 17, longest - 1, longest] {
-        for last in [0u8, 1, 2, 3, 4, 127, 128, 255] {
-            let mut t = vec![ROW, places, 1, 1];
-            t.extend(vec![0; places.div_ceil(8) as usize - 1]);
-            t.push(last);
-            t.extend(vec![1; last.count_ones() as usize]);
-            out.push(t);
+    for (kind, side) in [(ROW, NORTH), (TWO_LAYER, SOUTH)] {
+        for places in [1, 7, 8, 9, 15, 16, 17, longest - 1, longest] {
+            for last in [0u8, 1, 2, 3, 4, 127, 128, 255] {
+                let mut t = vec![kind, places, 1, 1 << side];
+                t.extend(vec![0; places.div_ceil(8) as usize - 1]);
+                t.push(last);
+                t.extend(vec![1; last.count_ones() as usize]);
+                out.push(t);
+            }
         }
     }
     for net in [0, 1, LARGEST_NET, LARGEST_NET + 1, 255] {
@@ -62,6 +77,7 @@ fn read_tickets() -> Vec<Vec<u8>> {
     out.push(full[..full.len() - 1].to_vec());
     out.push([&full[..], &[1]].concat());
     out.push(full);
+    out.extend(two_layers(r));
     for _ in 0..260 {
         let t = tickets::random(r);
         out.push(if r.below(3) > 0 { damaged(r, &t) } else { t });
@@ -84,6 +100,7 @@ fn survey_tickets() -> Vec<Vec<u8>> {
         out.push(tickets::corner(r, 9, 7, a, b));
         out.push(tickets::corner(r, 5, 11, a, b));
     }
+    out.extend(two_layers(r));
     for _ in 0..220 {
         let t = tickets::random(r);
         out.push(if r.below(3) == 0 { damaged(r, &t) } else { t });
@@ -116,43 +133,77 @@ fn drawn_cases() -> Vec<Case> {
         });
         out.push(case(&through, 3, 5, false, x));
     }
-    let south = encode(CHANNEL, 2, 1, &pins(&[(SOUTH, 1, 4), (SOUTH, 2, 4)]));
-    for track in 1..=3 {
+    for kind in [CHANNEL, TWO_LAYER] {
+        let south = encode(kind, 2, 1, &pins(&[(SOUTH, 1, 4), (SOUTH, 2, 4)]));
+        for track in 1..=3 {
+            for first in [false, true] {
+                out.push(case(&south, 3, 2, first, layered(2, 3, 2, |_, j, _| if j == track { 4 } else { 0 })));
+            }
+        }
+        let tower = encode(kind, 2, 1, &pins(&[(NORTH, 1, LARGEST_NET), (SOUTH, 2, LARGEST_NET)]));
         for first in [false, true] {
-            out.push(case(&south, 3, 2, first, layered(2, 3, 2, |_, j, _| if j == track { 4 } else { 0 })));
+            for hole in [0, 1, 128, MOST_LAYERS] {
+                let x = layered(2, 1, MOST_LAYERS, |_, _, l| if l != hole { LARGEST_NET } else { 0 });
+                out.push(case(&tower, 1, MOST_LAYERS, first, x));
+            }
         }
     }
-    let tower = encode(CHANNEL, 2, 1, &pins(&[(NORTH, 1, LARGEST_NET), (SOUTH, 2, LARGEST_NET)]));
-    for first in [false, true] {
-        for hole in [0, 1, 128, MOST_LAYERS] {
-            let x = layered(2, 1, MOST_LAYERS, |_, _, l| if l != hole { LARGEST_NET } else { 0 });
-            out.push(case(&tower, 1, MOST_LAYERS, first, x));
-        }
-    }
-    for kind in [ROW, CHANNEL, BOX] {
-        let empty = encode(kind, 3, 2, &Places::new());
+    for (kind, byte2) in [(ROW, 2), (CHANNEL, 2), (BOX, 2), (TWO_LAYER, 1)] {
+        let empty = encode(kind, 3, byte2, &Places::new());
         out.push(case(&empty, 2, 2, false, vec![0; 12]));
         out.push(case(&empty, 2, 2, true, layered(3, 2, 2, |i, j, l| if i + j + l == 7 { 5 } else { 0 })));
     }
     let wide: Places = (1..=LONGEST_SIDE).map(|i| ((NORTH, i), 1 + (i as u8 - 1) / 2)).collect();
     let wide = encode(ROW, LONGEST_SIDE, 1, &wide);
-    let area = LONGEST_SIDE * WIDEST_GRID;
+    let area = LONGEST_SIDE * WIDEST_CHANNEL;
     for missing in [None, Some(0), Some(area / 2), Some(2 * area - 1)] {
-        let mut x = layered(LONGEST_SIDE, WIDEST_GRID, 2, |i, _, _| 1 + (i as u8 - 1) / 2);
+        let mut x = layered(LONGEST_SIDE, WIDEST_CHANNEL, 2, |i, _, _| 1 + (i as u8 - 1) / 2);
         if let Some(q) = missing {
             x[q] = 0;
         }
-        out.push(case(&wide, WIDEST_GRID, 2, false, x));
+        out.push(case(&wide, WIDEST_CHANNEL, 2, false, x));
     }
+    out
+}
+
+/// Two-layer channels as wide as no other kind may be, the same pins as a channel's, and a solid one on three layers.
+fn wide_cases() -> Vec<Case> {
+    let mut out = Vec::new();
+    let rings = tickets::rings(4);
+    let ticket = read::read(&rings).expect("a good ticket");
+    let needed = two_layer::lay(&ticket, 0).0.w;
+    let channel = [&[CHANNEL], &rings[1..]].concat();
+    for w in [WIDEST_CHANNEL, WIDEST_CHANNEL + 1, WIDEST_GRID, WIDEST_GRID + 1] {
+        let (_, x) = two_layer::lay(&ticket, w - needed);
+        let (vertical, horizontal) = x.split_at(x.len() / 2);
+        out.push(case(&rings, w, 2, true, [horizontal, vertical].concat()));
+        out.push(case(&rings, w, 2, true, x.clone()));
+        out.push(case(&channel, w, 2, false, x.clone()));
+        for at in [0, 2 * w, 4 * w - 1] {
+            let mut cut = x.clone();
+            cut[at] = 0;
+            out.push(case(&rings, w, 2, false, cut));
+        }
+        out.push(case(&rings, w, 2, false, x));
+    }
+    let columns: Places = [NORTH, SOUTH].into_iter().flat_map(|s| (1..=LONGEST_SIDE).map(move |i| ((s, i), i as u8))).collect();
+    let columns = encode(TWO_LAYER, LONGEST_SIDE, 1, &columns);
+    let whole = layered(LONGEST_SIDE, WIDEST_GRID, 1, |i, _, _| i as u8);
+    let mut cut = whole.clone();
+    cut[LONGEST_SIDE * WIDEST_GRID - 1] = 0;
+    out.extend([whole, cut].map(|x| case(&columns, WIDEST_GRID, 1, false, x)));
+    let c1 = read::read(DOCUMENT[3].1).expect("a good ticket");
+    let (g, x) = lay::lay(&c1).expect("a channel's wiring");
+    out.push(case(&[&[TWO_LAYER], &DOCUMENT[3].1[1..]].concat(), g.w, g.k, g.first, x));
     out
 }
 
 /// Refusals 1 and 11 to 13, and their order.
 fn refused_cases(r: &mut Numbers) -> Vec<Case> {
     let mut out = Vec::new();
-    for _ in 0..4 {
-        let c = wired(r);
-        for w in [0, 1, c.w, WIDEST_GRID, WIDEST_GRID + 1, 65535] {
+    for kind in [ROW, CHANNEL, BOX, TWO_LAYER] {
+        let c = std::iter::repeat_with(|| wired(r)).find(|c| c.ticket[0] == kind).expect("a wiring of each kind");
+        for w in [0, 1, c.w, WIDEST_CHANNEL, WIDEST_CHANNEL + 1, WIDEST_GRID, WIDEST_GRID + 1, 65535] {
             out.extend([0, 1, c.k, MOST_LAYERS, MOST_LAYERS + 1, 65535].map(|k| case(&c.ticket, w, k, c.first, c.wiring.clone())));
         }
         let with = |scratch: usize, x: &[u8]| Case { scratch, ..case(&c.ticket, c.w, c.k, c.first, x.to_vec()) };
@@ -174,6 +225,7 @@ fn refused_cases(r: &mut Numbers) -> Vec<Case> {
 fn check_cases() -> Vec<Case> {
     let r = &mut Numbers::new(7);
     let mut out = drawn_cases();
+    out.extend(wide_cases());
     out.extend(refused_cases(r));
     for _ in 0..330 {
         let c = wired(r);
@@ -202,6 +254,41 @@ fn check_record(c: &Case) -> Vec<u8> {
     out
 }
 
+/// The tracks that the crates' own construction takes for a two-layer channel that is not solid, for the vectors alone: the
+/// documents leave this number free, and nothing else here knows how the crates lay. A track for each net with two or more pins
+/// on a side, one for each net that moves from its first north to another column, that of its first south pin, and one for
+/// each ring of such moves.
+fn width_of_the_crates_construction(t: &Ticket) -> usize {
+    let nets = t.nets();
+    let many = |side: usize| nets.iter().filter(|m| t.on(side, **m).len() >= 2).count();
+    let ends = |m: &u8| Some((*t.on(NORTH, *m).first()?, *t.on(SOUTH, *m).first()?));
+    let moves: Vec<(usize, usize)> = nets.iter().filter_map(ends).filter(|(from, to)| from != to).collect();
+    let next = |column: usize| moves.iter().find(|(from, _)| *from == column).map(|(_, to)| *to);
+    // The columns that a walk from this one comes to, the last of them itself where it is on a ring.
+    let walk = |start: usize| {
+        let mut out = vec![];
+        let mut at = next(start);
+        while let Some(c) = at.filter(|c| !out.contains(c)) {
+            out.push(c);
+            at = if c == start { None } else { next(c) };
+        }
+        out
+    };
+    // A ring is counted at its smallest column.
+    let rings = moves.iter().filter(|(from, _)| walk(*from).last() == Some(from) && walk(*from).iter().all(|c| c >= from)).count();
+    (many(NORTH) + moves.len() + rings + many(SOUTH)).max(1)
+}
+
+/// The grid that Lay uses, or 17.
+fn laid_grid(t: &Ticket) -> Result<Grid, Refusal> {
+    match t.kind {
+        ROW | CHANNEL | BOX => Ok(lay::grid(t).expect("the documents give it")),
+        TWO_LAYER if two_layer::is_solid(t) => Err(Refusal(17, 0)),
+        TWO_LAYER => Ok(Grid { n: t.n, w: width_of_the_crates_construction(t), k: 2, first: false }),
+        other => no_kind(other),
+    }
+}
+
 /// Tickets to lay, each with the length of the buffer: exact, one byte short, longer, none.
 fn lay_cases() -> Vec<(Vec<u8>, usize)> {
     let r = &mut Numbers::new(17);
@@ -219,18 +306,19 @@ fn lay_cases() -> Vec<(Vec<u8>, usize)> {
             tickets.push(tickets::corner(r, n, w, a, b));
         }
     }
+    tickets.extend(two_layers(r));
+    tickets.push([&tickets::solid(r, 3)[..], &[1]].concat());
     for _ in 0..150 {
         let t = tickets::random(r);
         tickets.push(if r.below(8) == 0 { damaged(r, &t) } else { t });
     }
     let mut out = Vec::new();
     for t in tickets {
-        let size = read::read(&t).map_or(0, |t| lay::grid(&t).size());
-        for length in [size, size.saturating_sub(1), size + 1 + r.below(9), r.below(size + 1)] {
-            if size > 0 || length == 0 {
-                out.push((t.clone(), length));
-            }
-        }
+        let lengths = match read::read(&t).and_then(|t| laid_grid(&t)) {
+            Ok(g) => vec![g.size(), g.size() - 1, g.size() + 1 + r.below(9), r.below(g.size() + 1)],
+            Err(_) => vec![0, 1 + r.below(400)],
+        };
+        out.extend(lengths.into_iter().map(|length| (t.clone(), length)));
     }
     out
 }
@@ -245,14 +333,11 @@ fn lay_record((t, length): &(Vec<u8>, usize)) -> Vec<u8> {
 /// bytes outside it were kept.
 fn lay_row((t, length): &(Vec<u8>, usize)) -> String {
     let refused = |number: u64, place: usize| row(&[number, place as u64, 0, 0, 0, 0, 0, 0, 0, 0, 0, 0, 0, 1]);
-    match read::read(t) {
-        Err(slow::Refusal(number, place)) => refused(number as u64, place),
-        Ok(ticket) => {
-            let (g, f) = (lay::grid(&ticket), survey::figures(&ticket));
-            if *length < g.size() {
-                return refused(10, g.size());
-            }
-            let fields = [0, 0, ticket.kind as usize, g.n, g.w, g.k, g.first as usize, f.nets, f.across, f.up, f.floor, 0, 0, 1];
+    match read::read(t).and_then(|ticket| Ok((laid_grid(&ticket)?, survey::figures(&ticket), ticket.kind))) {
+        Err(Refusal(number, place)) => refused(number as u64, place),
+        Ok((g, _, _)) if *length < g.size() => refused(10, g.size()),
+        Ok((g, f, kind)) => {
+            let fields = [0, 0, kind as usize, g.n, g.w, g.k, g.first as usize, f.nets, f.across, f.up, f.floor, 0, 0, 1];
             row(&fields.map(|x| x as u64))
         }
     }

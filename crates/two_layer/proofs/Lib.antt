@@ -1,0 +1,3 @@
+pub mod TrackRows
+pub mod Lists
+pub mod Laying
