@@ -4,7 +4,7 @@ use mathlib.Core.List.{List}
 use mathlib.Core.Path.{_≡_, ap}
 use lib.ListN.{take}
 use Rattle.ticket.proofs.Longest.{first-bytes}
-use Rattle.ticket.specs.Format.{longestTicket}
+use Rattle.ticket_sides.specs.Format.{longestTicket}
 use Rattle.ticket.specs.declared.Reading.{Reading}
 use Rattle.survey.specs.Line.{lineFor, lineOf}
 use Rattle.survey.specs.Survey.{surveyOf, surveyed}

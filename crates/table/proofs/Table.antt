@@ -6,8 +6,9 @@ use mathlib.Core.List.{[], _∷_}
 use Rattle.counting.specs.Counting.{sum, some, most, ceil, least}
 use Rattle.density.specs.Density.{pinOn, hasPin, passesAt, across, up, tracksFor, floor}
 use Rattle.ticket.specs.declared.Reading.{Reading}
-use Rattle.ticket.specs.Format.{goodMap, pinNet, listed, sideNets}
-use Rattle.ticket.specs.Read.{fieldsOf, headerOf, netsOf, sideOf, after, northEnd, southEnd, westEnd, eastEnd, problemOf}
+use Rattle.ticket_sides.specs.Format.{goodMap, pinNet, valuesFrom, sideNets}
+use Rattle.ticket_sides.specs.Stages.{fieldsOf, headerOf, netsOf, sideOf, after, northEnd, southEnd, westEnd, eastEnd}
+use Rattle.ticket.specs.Read.{problemOf}
 use Rattle.survey.specs.Survey.{surveyOf}
 use Rattle.figures.specs.Figures.{figuresOf}
 use Rattle.survey.specs.Line.{spelled, lineFor}
@@ -21,27 +22,27 @@ use Rattle.table.proofs.TwoLayer.{by-test, laid-by}
 use Rattle.table.proofs.Found.{check-gives, found-legal}
 
 d1-refused : LayRefuses d1 17 0
-unfolding sum some least ceil goodMap pinNet listed sideNets fieldsOf headerOf netsOf sideOf after northEnd southEnd westEnd eastEnd
+unfolding sum some least ceil goodMap pinNet valuesFrom sideNets fieldsOf headerOf netsOf sideOf after northEnd southEnd westEnd eastEnd
     tallied figuresOf leads next steps moves widthFor
 d1-refused = by-test d1 refl refl
 
 d3-laid : LaidOn d3 3 3
-unfolding sum some least ceil goodMap pinNet listed sideNets fieldsOf headerOf netsOf sideOf after northEnd southEnd westEnd eastEnd
+unfolding sum some least ceil goodMap pinNet valuesFrom sideNets fieldsOf headerOf netsOf sideOf after northEnd southEnd westEnd eastEnd
     tallied figuresOf leads next steps moves widthFor
 d3-laid = laid-by d3 refl refl 3 3
 
 d4-laid : LaidOn d4 4 7
-unfolding sum some least ceil goodMap pinNet listed sideNets fieldsOf headerOf netsOf sideOf after northEnd southEnd westEnd eastEnd
+unfolding sum some least ceil goodMap pinNet valuesFrom sideNets fieldsOf headerOf netsOf sideOf after northEnd southEnd westEnd eastEnd
     tallied figuresOf leads next steps moves widthFor
 d4-laid = laid-by d4 refl refl 4 7
 
 d5-laid : LaidOn d5 2 1
-unfolding sum some least ceil goodMap pinNet listed sideNets fieldsOf headerOf netsOf sideOf after northEnd southEnd westEnd eastEnd
+unfolding sum some least ceil goodMap pinNet valuesFrom sideNets fieldsOf headerOf netsOf sideOf after northEnd southEnd westEnd eastEnd
     tallied figuresOf leads next steps moves widthFor
 d5-laid = laid-by d5 refl refl 2 1
 
 pub table : ProofTable
-unfolding sum some most ceil pinOn hasPin passesAt across up tracksFor floor goodMap pinNet listed sideNets least fieldsOf headerOf netsOf
+unfolding sum some most ceil pinOn hasPin passesAt across up tracksFor floor goodMap pinNet valuesFrom sideNets least fieldsOf headerOf netsOf
     sideOf after northEnd southEnd westEnd eastEnd tallied figuresOf surveyOf spelled lineFor checkRefusal
 table =
     record {

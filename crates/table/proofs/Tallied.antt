@@ -12,17 +12,19 @@ use Rattle.terms.specs.Limits.{largestNet}
 use Rattle.grid.specs.Legal.{nets}
 use Rattle.counting.specs.Counting.{least}
 use Rattle.problem.specs.Problem.{pinsIn, netCount, loneNet}
-use Rattle.ticket.specs.Steps.{Header, Sides}
-use Rattle.ticket.specs.Read.{headerOf, eastEnd, endsOf, pinsAt, ticketOf, answerOf, readOf}
-use Rattle.counting.proofs.Leasts.{least-same}
-use Rattle.ticket.proofs.Laws.{header-good}
-use Rattle.ticket.proofs.Spans.{sides-span, pin-count}
-use Rattle.survey.specs.Survey.{surveyed, surveyOf}
+use Rattle.ticket_sides.specs.Steps.{Header}
 use Rattle.ticket.specs.declared.Reading.{Reading}
+use Rattle.ticket.specs.Steps.{Extents}
+use Rattle.ticket_sides.specs.Stages.{headerOf, eastEnd, endsOf}
+use Rattle.ticket.specs.Read.{pinsAt, ticketOf, answerOf, readOf}
+use Rattle.ticket.proofs.Laws.{header-good}
+use Rattle.ticket.proofs.Extents.{sides-extents, pin-count}
+use Rattle.counting.proofs.Leasts.{least-same}
+use Rattle.survey.specs.Survey.{surveyed, surveyOf}
 use Rattle.router.specs.Lay.{layFor, layOf}
 use Rattle.table.specs.Decide.{tally, tallied}
 
-module _ (s : List ℕ) (h : Header s) (w : Sides s (endsOf s)) where
+module _ (s : List ℕ) (h : Header s) (w : Extents s (endsOf s)) where
   lone-by-bytes : loneNet (pinsIn (pinsAt s (endsOf s))) ≡ least (λ v. eqb (tally s v) 1) largestNet
   lone-by-bytes = least-same _ _ largestNet (λ v i. ap (λ (k : ℕ). eqb k 1) (pin-count s (endsOf s) v (λ z. omega arith) h w))
 
@@ -34,7 +36,7 @@ unfolding ticketOf tallied
 read-tallied s =
     by-cases (ℕ-discrete (headerOf s .refusal .number) 0)
     (λ h. by-cases (ℕ-discrete (eastEnd s .refusal .number) 0)
-    (λ e. let g = header-good s h in let w = sides-span s g refl e in rw (lone-by-bytes s g w, nets-by-bytes s g w))
+    (λ e. let g = header-good s h in let w = sides-extents s g refl e in rw (lone-by-bytes s g w, nets-by-bytes s g w))
     (λ n. rw (ne-eqb (eastEnd s .refusal .number) 0 n)))
     (λ n. rw (ne-eqb (headerOf s .refusal .number) 0 n))
 

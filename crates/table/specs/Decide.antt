@@ -36,12 +36,12 @@ use Rattle.terms.specs.Limits.{largestNet}
 use Rattle.grid.specs.Grid.{Grid, Node, pin, point, places}
 use Rattle.grid.specs.Legal.{Pins, Wiring, holds, nets, wiringOf, entry}
 use Rattle.ticket.specs.declared.Reading.{Reading}
-use Rattle.ticket.specs.Format.{byte, mapBytes}
+use Rattle.ticket_sides.specs.Format.{byte, mapBytes}
 use Rattle.terms.specs.declared.Refusal.{Refusal}
 use Rattle.terms.specs.Refusals.{refusal}
 use Rattle.ticket.specs.Steps.{times}
-use Rattle.ticket.specs.Read.{headerOf, northEnd, southEnd, westEnd, eastEnd, endsOf, pinsAt, leftOver, noLone, orRefused}
-use Rattle.ticket.specs.Read.{acceptedReading, problemAt}
+use Rattle.ticket_sides.specs.Stages.{headerOf, northEnd, southEnd, westEnd, eastEnd, endsOf}
+use Rattle.ticket.specs.Read.{pinsAt, leftOver, noLone, orRefused, acceptedReading, problemAt}
 
 -- ---- reading
 

@@ -19,34 +19,34 @@ use Rattle.terms.proofs.Laws.{Known, is-row, is-channel, is-box, is-two-layer, 
 use Rattle.terms.specs.Limits.{largestNet, longestSide}
 use Rattle.grid.specs.Grid.{Grid, places, upright}
 use Rattle.grid.specs.Legal.{Pins as GridPins, entry}
-use Rattle.ticket.proofs.Flags.{le-or-lt}
-use Rattle.ticket.proofs.Bits.{standing-below, pin-stands, pin-empty, pin-past, pin-off}
-use Rattle.ticket.proofs.Filled.{entry-listed, entry-past}
+use Rattle.ticket_sides.proofs.Flags.{le-or-lt}
+use Rattle.ticket.proofs.Placed.{standing-below, pin-stands, pin-empty, pin-past, pin-off}
+use Rattle.ticket.proofs.Filled.{entry-values, entry-past}
 use Rattle.ticket.proofs.Seconds.{second}
-use Rattle.ticket.proofs.Spans.{side-read, side-before}
+use Rattle.ticket.proofs.Extents.{side-read, side-before}
 use Rattle.counting.proofs.Leasts.{least-zero}
 use Rattle.ticket.proofs.Laws.{unless-good, Fields, fields-good, nets-good}
-use Rattle.ticket.specs.declared.Cursor.{Cursor}
+use Rattle.ticket_sides.specs.declared.Cursor.{Cursor}
 use Rattle.problem.specs.declared.Pins.{Pins}
 use Rattle.ticket.specs.declared.Reading.{Reading}
 use Rattle.problem.specs.declared.Problem.{Problem}
 use Rattle.problem.specs.Problem.{pinsIn, pinCount, loneNet, netCount, Another, Good, shapeOf}
-use Rattle.ticket.specs.Format.{byte, isOn, stands, standing, mapBytes, pinNet, listed, sideNets}
-use Rattle.ticket.specs.Read.{goOn, headerOf, netsOf, after, northEnd, southEnd, westEnd, eastEnd, endsOf, pinsAt, leftOver, noLone, acceptedReading}
-use Rattle.ticket.specs.Read.{problemAt, orRefused, ticketOf, problemOf}
+use Rattle.ticket_sides.specs.Format.{byte, isOn, stands, standingBits, mapBytes, pinNet, valuesFrom, sideNets}
+use Rattle.ticket_sides.specs.Stages.{goOn, headerOf, netsOf, after, northEnd, southEnd, westEnd, eastEnd, endsOf}
+use Rattle.ticket.specs.Read.{pinsAt, leftOver, noLone, acceptedReading, problemAt, orRefused, ticketOf, problemOf}
 
 -- ---- a side's list
 
 module _ (f : ℕ → ℕ) (n : ℕ) where
   -- what holds of 0 and of f at each place holds of each entry
-  entry-all : (P : ℕ → Type 0) → P 0 → ((a : ℕ) → In a n → P (f a)) → (a : ℕ) → P (entry (listed f 1 n) a)
+  entry-all : (P : ℕ → Type 0) → P 0 → ((a : ℕ) → In a n → P (f a)) → (a : ℕ) → P (entry (valuesFrom f 1 n) a)
   entry-all P z h zero = z
   entry-all P z h (suc k) =
-      ⊎-elim (λ le. subst P (sym (entry-listed f n (suc k) (omega arith))) (h (suc k) (omega arith))) (λ lt. subst P (sym (entry-past f n (suc k) lt)) z)
+      ⊎-elim (λ le. subst P (sym (entry-values f n (suc k) (omega arith))) (h (suc k) (omega arith))) (λ lt. subst P (sym (entry-past f n (suc k) lt)) z)
       (le-or-lt (suc k) n)
 
--- the nets of a side of p places
-record Listed (p : ℕ) (l : List ℕ) : Type 0 where
+-- nets or empty places, and none past place p
+record NetsUpTo (p : ℕ) (l : List ℕ) : Type 0 where
   small : (a : ℕ) → entry l a ≤ largestNet
   past : (a : ℕ) → p < a → entry l a ≡ 0
 
@@ -55,13 +55,13 @@ nets-small s zero i j e h = absurd (omega arith)
 nets-small s (suc k) i zero e h = let q : i + 0 ≡ i = omega arith in rw q (nets-good s k i e .1)
 nets-small s (suc k) i (suc j) e h = let q : i + suc j ≡ i + 1 + j = omega arith in rw q (nets-small s k (i + 1) j (nets-good s k i e .2) (omega arith))
 
-module _ (s : List ℕ) (from p : ℕ) (e : netsOf s (from + mapBytes p) (standing s from p) .refusal .number ≡ 0) where
+module _ (s : List ℕ) (from p : ℕ) (e : netsOf s (from + mapBytes p) (standingBits s from p) .refusal .number ≡ 0) where
   pin-small : (i : ℕ) → pinNet s true from p (i + 1) ≤ largestNet
   pin-small i =
       ⊎-elim (λ le. omega (arith, pin-past s true from p (i + 1) (omega arith)))
       (λ lt.
       split (stands s from (i + 1))
-      (λ t. rw (pin-stands s from p i lt t) (nets-small s (standing s from p) (from + mapBytes p) (standing s from i) e (standing-below s from p i lt t)))
+      (λ t. rw (pin-stands s from p i lt t) (nets-small s _ (from + mapBytes p) (standingBits s from i) e (standing-below s from p i lt t)))
       (λ t. omega (arith, pin-empty s true from p (i + 1) t)))
       (le-or-lt p i)
 
@@ -69,18 +69,18 @@ module _ (s : List ℕ) (from p : ℕ) (e : netsOf s (from + mapBytes p) (standi
   pin-small-at zero i = absurd (omega arith)
   pin-small-at (suc k) i = rw (← add-one) (pin-small k)
 
-listed-side : (s : List ℕ) (on : Bool) (from p : ℕ) → ((a : ℕ) → In a longestSide → pinNet s on from p a ≤ largestNet) → Listed p (sideNets s on from p)
+nets-up-to : (s : List ℕ) (on : Bool) (from p : ℕ) → ((a : ℕ) → In a longestSide → pinNet s on from p a ≤ largestNet) → NetsUpTo p (sideNets s on from p)
 unfolding sideNets
-listed-side s on from p small =
+nets-up-to s on from p small =
     record {
       small = entry-all (pinNet s on from p) longestSide (λ x. x ≤ largestNet) (omega arith) small;
-      past = λ a h. ⊎-elim (λ le. entry-listed (pinNet s on from p) longestSide a (omega arith) ∙ pin-past s on from p a h)
+      past = λ a h. ⊎-elim (λ le. entry-values (pinNet s on from p) longestSide a (omega arith) ∙ pin-past s on from p a h)
           (entry-past (pinNet s on from p) longestSide a) (le-or-lt a longestSide);
     }
 
-side-listed : (s : List ℕ) (on : Bool) (p : ℕ) (c : Cursor) → after s on p c .refusal .number ≡ 0 → Listed p (sideNets s on (c .at) p)
-side-listed s true p c e = listed-side s true (c .at) p (pin-small-at s (c .at) p (side-read s p c e .nets))
-side-listed s false p c e = listed-side s false (c .at) p (λ a i. omega (arith, pin-off s (c .at) p a))
+side-up-to : (s : List ℕ) (on : Bool) (p : ℕ) (c : Cursor) → after s on p c .refusal .number ≡ 0 → NetsUpTo p (sideNets s on (c .at) p)
+side-up-to s true p c e = nets-up-to s true (c .at) p (pin-small-at s (c .at) p (side-read s p c e .nets))
+side-up-to s false p c e = nets-up-to s false (c .at) p (λ a i. omega (arith, pin-off s (c .at) p a))
 
 side-bare : (s : List ℕ) (on : Bool) (from p : ℕ) → on ≡ false → (a : ℕ) → entry (sideNets s on from p) a ≡ 0
 unfolding sideNets
@@ -130,13 +130,13 @@ off : (b k : ℕ) → b < 2 ^ k → isOn b k ≡ false
 off b k h = rw (div-eq-of-lt h)
 
 module _ (s : List ℕ) (r : Read s) where
-  ends : Listed (byte s 1) (found s .north) × Listed (byte s 1) (found s .south) × Listed (byte s 2) (found s .west) × Listed (byte s 2) (found s .east)
+  ends : NetsUpTo (byte s 1) (found s .north) × NetsUpTo (byte s 1) (found s .south) × NetsUpTo (byte s 2) (found s .west) × NetsUpTo (byte s 2) (found s .east)
   unfolding northEnd southEnd westEnd eastEnd
   ends =
       let w = side-before s _ _ (westEnd s) (r .sides) in
       let so = side-before s _ _ (southEnd s) w in
       let n = side-before s _ _ (northEnd s) so in
-      (side-listed s _ _ (goOn 4) n, side-listed s _ _ (northEnd s) so, side-listed s _ _ (southEnd s) w, side-listed s _ _ (westEnd s) (r .sides))
+      (side-up-to s _ _ (goOn 4) n, side-up-to s _ _ (northEnd s) so, side-up-to s _ _ (southEnd s) w, side-up-to s _ _ (westEnd s) (r .sides))
 
   abbrev problem : Problem
   problem = problemAt s (netCount (pinsIn (found s))) (found s)

@@ -1,10 +1,8 @@
-pub mod Flags
-pub mod Bits
 pub mod Filled
 pub mod Tallies
 pub mod Laws
 pub mod Placed
-pub mod Spans
+pub mod Extents
 pub mod Seconds
 pub mod Good
 pub mod Longest

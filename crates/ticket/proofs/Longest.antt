@@ -12,16 +12,16 @@ use lib.Seq.{getD-take, length-take-le, take-all}
 use borrow.Author.Tests.{le-leb, lt-leb, lt-ltb}
 use Rattle.counting.proofs.Counts.{count-same}
 use Rattle.terms.specs.Limits.{longestSide, largestNet, within}
-use Rattle.ticket.proofs.Bits.{standing-le}
-use Rattle.ticket.proofs.Flags.{le-or-lt}
+use Rattle.ticket_sides.proofs.Bits.{standing-le}
+use Rattle.ticket_sides.proofs.Flags.{le-or-lt}
 use Rattle.ticket.proofs.Good.{passed}
 use Rattle.ticket.proofs.Laws.{header-good, second-le, turned-down}
-use Rattle.ticket.specs.Format.{byte, longestTicket, isOn, standing, mapBytes, goodMap}
-use Rattle.ticket.specs.Read.{stop, goOn, headerOf, netsOf, sideOf, after, northEnd, southEnd, westEnd, eastEnd, endsOf, pinsAt, leftOver, judged}
-use Rattle.ticket.specs.Read.{orRefused, refusedReading, ticketOf}
+use Rattle.ticket_sides.specs.Format.{byte, longestTicket, isOn, standingBits, mapBytes, goodMap}
+use Rattle.ticket_sides.specs.Stages.{stop, goOn, headerOf, netsOf, sideOf, after, northEnd, southEnd, westEnd, eastEnd, endsOf}
+use Rattle.ticket.specs.Read.{pinsAt, leftOver, judged, orRefused, refusedReading, ticketOf}
 use Rattle.terms.specs.Refusals.{unless}
 use Rattle.terms.proofs.Laws.{known}
-use Rattle.ticket.specs.declared.Cursor.{Cursor}
+use Rattle.ticket_sides.specs.declared.Cursor.{Cursor}
 use Rattle.ticket.specs.declared.Reading.{Reading}
 
 -- ---- where reading stands after each side
@@ -45,8 +45,8 @@ side-at : (s : List ℕ) (from p : ℕ) → p ≤ longestSide → sideOf s from 
 unfolding sideOf
 side-at s from p few =
     unless-at (leb (from + mapBytes p) (length s)) 1 (length s) _ (from + mostSide)
-    (unless-at (goodMap s from p) 6 from (netsOf s (from + mapBytes p) (standing s from p)) (from + mostSide)
-    (omega (arith, nets-at s (standing s from p) (from + mapBytes p), standing-le s from p)))
+    (unless-at (goodMap s from p) 6 from (netsOf s (from + mapBytes p) (standingBits s from p)) (from + mostSide)
+    (omega (arith, nets-at s (standingBits s from p) (from + mapBytes p), standing-le s from p)))
 
 after-at : (s : List ℕ) (on : Bool) (p : ℕ) (c : Cursor) → p ≤ longestSide → after s on p c .at ≤ c .at + mostSide
 unfolding after
@@ -99,7 +99,7 @@ module _ (s t : List ℕ) (q : Alike s t) where
         nets-alike k (i + 1) (omega arith),
       )
 
-  standing-alike : (from p : ℕ) → from + mapBytes p ≤ longestTicket → standing s from p ≡ standing t from p
+  standing-alike : (from p : ℕ) → from + mapBytes p ≤ longestTicket → standingBits s from p ≡ standingBits t from p
   standing-alike from p h = count-same _ _ p (λ a i. ap (λ (b : ℕ). isOn b ((a - 1) % 8)) (q .bytes (from + (a - 1) / 8) (omega arith)))
 
   side-alike : (from p : ℕ) → p ≤ longestSide → from + mostSide ≤ longestTicket → sideOf s from p ≡ sideOf t from p
@@ -110,7 +110,7 @@ module _ (s t : List ℕ) (q : Alike s t) where
         le-leb (from + mapBytes p) (length t) (omega (arith, q .long′)),
         standing-alike from p (omega arith),
         standing-alike from (8 * mapBytes p) (omega arith),
-        nets-alike (standing t from p) (from + mapBytes p) (omega (arith, standing-le t from p)),
+        nets-alike (standingBits t from p) (from + mapBytes p) (omega (arith, standing-le t from p)),
       )
 
   -- the side of bit k of the side map, whose number of places is byte j

@@ -12,7 +12,7 @@ use borrow.Author.Tests.{eq-eqb, ne-eqb}
 use Rattle.counting.specs.Counting.{bit}
 use Rattle.counting.proofs.Counts.{count-le}
 use Rattle.counting.proofs.Sums.{sum-none, sum-more}
-use Rattle.ticket.specs.Format.{byte}
+use Rattle.ticket_sides.specs.Format.{byte}
 use Rattle.ticket.specs.Steps.{times}
 
 -- the array with one more at x

@@ -1,3 +1,2 @@
-pub mod Format
 pub mod Read
 pub mod Steps

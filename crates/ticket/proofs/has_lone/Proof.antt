@@ -1,17 +1,20 @@
 -- `ticket::has_lone` meets its contract: while no net passed has one pin, the least such is 0.
-use Prim.Native.Nat.{_-_, _+_, _≤_}
-use mathlib.Core.Bool.{false}
-use mathlib.Core.Path.{_≡_, sym, ap, _∙_}
+use Prim.Native.Nat.{ℕ, _-_, _+_, _≤_}
+use mathlib.Core.Bool.{Bool, true, false, _||_}
+use mathlib.Core.Path.{_≡_, refl, sym, ap, _∙_}
 use native.Mathlib.Omega.{arith}
 use lib.Dec.{eqb}
 use lib.ListN.{getD}
 use borrow.Author.Needs.{needs}
 use Rattle.terms.specs.Limits.{largestNet}
-use Rattle.ticket.proofs.Flags.{neither}
 use Rattle.counting.proofs.Leasts.{least-start, least-more}
 use Rattle.counting.specs.Counting.{least}
 use Rattle.ticket.proofs.has_lone.Statement.{statement}
 use Rattle.ticket.proofs.has_lone.Tie as tie
+
+neither : (a b : Bool) → (a || b) ≡ false → (a ≡ false) × (b ≡ false)
+neither true b e = let z : _≡_ {A = ℕ} 0 1 = cc in absurd (omega arith)
+neither false b e = (refl, e)
 
 abbrev Inv-loop : tie.InvT-loop
 Inv-loop counts some₀ v₀ some v = (v ≤ largestNet) × (some ≡ false → least (λ x. eqb (getD counts x 0) 1) v ≡ 0)

@@ -4,10 +4,10 @@ use mathlib.Core.Path.{sym, ap, _∙_}
 use denote.Ref.{now}
 use borrow.Author.Needs.{needs}
 use Rattle.ticket.proofs.Laws.{header-good, turned-down, going-on}
-use Rattle.ticket.proofs.Spans.{sides-span}
-use Rattle.ticket.specs.Read.{leftOver, pinsAt, judged, ticketOf}
-use Rattle.ticket.specs.declared.Ends.{Ends}
-use Rattle.ticket.specs.declared.Cursor.{Cursor}
+use Rattle.ticket.proofs.Extents.{sides-extents}
+use Rattle.ticket.specs.Read.{pinsAt, leftOver, judged, ticketOf}
+use Rattle.ticket_sides.specs.declared.Ends.{Ends}
+use Rattle.ticket_sides.specs.declared.Cursor.{Cursor}
 use Rattle.ticket.proofs.parse.Statement.{statement}
 use Rattle.ticket.proofs.parse.Tie as tie
 
@@ -46,7 +46,7 @@ judged-requires c κs =
     let c9 = c6 .before .before .before in
     let s = now (c9 .before .before .args .ticket) in
     let h = header-good s (ap number (sym (c9 .header .ensures)) ∙ c6 .before .if1 .left) in
-    (h, sides-span s h (c6 .sides .ensures) (c .before .before .before .if2 .left))
+    (h, sides-extents s h (c6 .sides .ensures) (c .before .before .before .if2 .left))
 
 returns-4 : tie.Need-returns-4
 unfolding ticketOf

@@ -5,30 +5,30 @@ use mathlib.Core.Bool.{Bool}
 use mathlib.Core.Path.{ap, _∙_}
 use denote.Ref.{now}
 use borrow.Author.Needs.{needs}
-use Rattle.ticket.specs.Format.{byte, sideNets}
-use Rattle.ticket.proofs.Spans.{spans-as}
+use Rattle.ticket_sides.specs.Format.{byte, sideNets}
+use Rattle.ticket.proofs.Extents.{extent-as}
 use Rattle.ticket.proofs.pins_at.Statement.{statement}
 use Rattle.ticket.proofs.pins_at.Tie as tie
 
 side-list-requires : tie.Need-side-list-requires
 side-list-requires c κs =
     let h = c .before .before .before .before .before .pre in
-    (h .0 .one .1, spans-as (c .bit-of .ensures) (h .1 .north))
+    (h .0 .one .1, extent-as (c .bit-of .ensures) (h .1 .north))
 
 side-list-requires-2 : tie.Need-side-list-requires-2
 side-list-requires-2 c κs =
     let h = c .before .before .before .before .before .before .before .pre in
-    (h .0 .one .1, spans-as (c .bit-of2 .ensures) (h .1 .south))
+    (h .0 .one .1, extent-as (c .bit-of2 .ensures) (h .1 .south))
 
 side-list-requires-3 : tie.Need-side-list-requires-3
 side-list-requires-3 c κs =
     let h = c .before .before .before .before .before .before .before .before .before .pre in
-    (h .0 .two .1, spans-as (c .bit-of3 .ensures) (h .1 .west))
+    (h .0 .two .1, extent-as (c .bit-of3 .ensures) (h .1 .west))
 
 side-list-requires-4 : tie.Need-side-list-requires-4
 side-list-requires-4 c κs =
     let h = c .before .before .before .before .before .before .before .before .before .before .before .pre in
-    (h .0 .two .1, spans-as (c .bit-of4 .ensures) (h .1 .east))
+    (h .0 .two .1, extent-as (c .bit-of4 .ensures) (h .1 .east))
 
 returns : tie.Need-returns
 returns c =

@@ -7,11 +7,11 @@ use native.Mathlib.Omega.{arith}
 use denote.Ref.{now}
 use borrow.Author.Tests.{not-true, not-false}
 use borrow.Author.Needs.{needs}
-use Rattle.ticket.specs.Format.{standing, mapBytes, pinNet, sideNets}
+use Rattle.ticket_sides.specs.Format.{standingBits, mapBytes, pinNet, sideNets}
 use Rattle.ticket.specs.Steps.{netList}
-use Rattle.ticket.proofs.Bits.{standing-le, pin-off}
+use Rattle.ticket_sides.proofs.Bits.{standing-le}
+use Rattle.ticket.proofs.Placed.{pin-off, full-list}
 use Rattle.ticket.proofs.Filled.{filled-none, filled-end}
-use Rattle.ticket.proofs.Placed.{full-list}
 use Rattle.ticket.proofs.side_list.Statement.{statement}
 use Rattle.ticket.proofs.side_list.Tie as tie
 
@@ -27,7 +27,7 @@ add-from-2 : tie.Need-add-from-2
 add-from-2 c = omega (arith, c .before .before .pre .1 .start, c .before .before .pre .1 .size)
 
 -- the side stands: it ends past its map and its nets
-end : (c : tie.Else1) → let a = c .before .before .args in a .end ≡ a .at + mapBytes (a .places) + standing (now (a .ticket)) (a .at) (a .places)
+end : (c : tie.Else1) → let a = c .before .before .args in a .end ≡ a .at + mapBytes (a .places) + standingBits (now (a .ticket)) (a .at) (a .places)
 end c = c .before .before .pre .1 .stands (not-false (c .before .before .args .stands) (c .if1 .left))
 
 sub-count : tie.Need-sub-count
@@ -56,7 +56,7 @@ side-nets-requires c κs =
     let h = c2 .before .before .pre in
     let s = now (a .ticket) in
     let from = a .at + mapBytes (a .places) in
-    let all : a .end - from ≡ standing s (a .at) (a .places) = omega (arith, end c2) in
+    let all : a .end - from ≡ standingBits s (a .at) (a .places) = omega (arith, end c2) in
     ((h .0, omega (arith, h .1 .size, end c2)), c .before .net-list .ensures ∙ ap (netList s from) all)
 
 returns-3 : tie.Need-returns-3

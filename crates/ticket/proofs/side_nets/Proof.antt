@@ -11,15 +11,15 @@ use mir.Val.{Fits}
 use borrow.Author.Needs.{needs}
 use Rattle.counting.specs.Counting.{bit}
 use Rattle.counting.proofs.Sums.{sum-none}
-use Rattle.ticket.specs.Format.{byte, stands, standing, pinNet, sideNets}
-use Rattle.ticket.proofs.Bits.{standing-le, pin-past}
+use Rattle.ticket_sides.specs.Format.{byte, stands, standingBits, pinNet, sideNets}
+use Rattle.ticket_sides.proofs.Bits.{standing-le}
+use Rattle.ticket.proofs.Placed.{pin-past, times-bit, place-bit, next-net, pin-product}
 use Rattle.ticket.proofs.Filled.{Filled, filled-none, filled-set, filled-end}
-use Rattle.ticket.proofs.Placed.{times-bit, place-bit, next-net, pin-product}
 use Rattle.ticket.proofs.side_nets.Statement.{statement}
 use Rattle.ticket.proofs.side_nets.Tie as tie
 
 abbrev Inv-loop : tie.InvT-loop
-Inv-loop ticket at places nets list₀ next₀ i₀ list next i = (i ≤ places) × (next ≡ standing ticket at i) × Filled (pinNet ticket true at places) 90 i list
+Inv-loop ticket at places nets list₀ next₀ i₀ list next i = (i ≤ places) × (next ≡ standingBits ticket at i) × Filled (pinNet ticket true at places) 90 i list
 
 abbrev μ-loop : tie.MeasureT-loop
 μ-loop ticket at places nets list₀ next₀ i₀ list next i = places - i

@@ -8,7 +8,7 @@ use mir.Syntax.{w8}
 use mir.Val.{Fits}
 use borrow.Author.Needs.{needs}
 use Rattle.ticket.proofs.Tallies.{Tally, tally-none, tally-more, tally-le}
-use Rattle.ticket.specs.Format.{byte, mapBytes}
+use Rattle.ticket_sides.specs.Format.{byte, mapBytes}
 use Rattle.ticket.specs.Steps.{times}
 use Rattle.ticket.proofs.tally.Statement.{statement}
 use Rattle.ticket.proofs.tally.Tie as tie

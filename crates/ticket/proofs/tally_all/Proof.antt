@@ -4,19 +4,19 @@ use denote.Ref.{now}
 use borrow.Author.Needs.{needs}
 use Rattle.terms.specs.Limits.{byteValues}
 use Rattle.counting.proofs.Lists.{zeros-at}
-use Rattle.ticket.proofs.Spans.{span-asks, span-most, pin-count}
+use Rattle.ticket.proofs.Extents.{extent-asks, extent-most, pin-count}
 use Rattle.ticket.proofs.tally_all.Statement.{statement}
 use Rattle.ticket.proofs.tally_all.Tie as tie
 
 tally-requires : tie.Need-tally-requires
 tally-requires c κs =
     let p = c .before .before .before .pre in
-    (λ v h. omega (arith, zeros-at byteValues v), span-asks (p .0 .one .1) (p .1 .north))
+    (λ v h. omega (arith, zeros-at byteValues v), extent-asks (p .0 .one .1) (p .1 .north))
 
 tally-requires-2 : tie.Need-tally-requires-2
 tally-requires-2 c κs =
     let p = c .before .before .before .before .pre in
-    (λ v h. omega (arith, zeros-at byteValues v, c .tally .ensures v h, span-most v (p .0 .one .1) (p .1 .north)), span-asks (p .0 .one .1) (p .1 .south))
+    (λ v h. omega (arith, zeros-at byteValues v, c .tally .ensures v h, extent-most v (p .0 .one .1) (p .1 .north)), extent-asks (p .0 .one .1) (p .1 .south))
 
 tally-requires-3 : tie.Need-tally-requires-3
 tally-requires-3 c κs =
@@ -25,11 +25,11 @@ tally-requires-3 c κs =
         arith,
         zeros-at byteValues v,
         c .before .tally .ensures v h,
-        span-most v (p .0 .one .1) (p .1 .north),
+        extent-most v (p .0 .one .1) (p .1 .north),
         c .tally2 .ensures v h,
-        span-most v (p .0 .one .1) (p .1 .south),
+        extent-most v (p .0 .one .1) (p .1 .south),
       ),
-      span-asks (p .0 .two .1) (p .1 .west),
+      extent-asks (p .0 .two .1) (p .1 .west),
     )
 
 tally-requires-4 : tie.Need-tally-requires-4
@@ -39,13 +39,13 @@ tally-requires-4 c κs =
         arith,
         zeros-at byteValues v,
         c .before .before .tally .ensures v h,
-        span-most v (p .0 .one .1) (p .1 .north),
+        extent-most v (p .0 .one .1) (p .1 .north),
         c .before .tally2 .ensures v h,
-        span-most v (p .0 .one .1) (p .1 .south),
+        extent-most v (p .0 .one .1) (p .1 .south),
         c .tally3 .ensures v h,
-        span-most v (p .0 .two .1) (p .1 .west),
+        extent-most v (p .0 .two .1) (p .1 .west),
       ),
-      span-asks (p .0 .two .1) (p .1 .east),
+      extent-asks (p .0 .two .1) (p .1 .east),
     )
 
 returns : tie.Need-returns

@@ -1,0 +1,3 @@
+pub mod Format
+pub mod Stages
+pub mod Steps
