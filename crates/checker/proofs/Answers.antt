@@ -15,12 +15,24 @@ use Rattle.terms.specs.Limits.{longestSide, widestGrid, byteValues}
 use Rattle.grid.specs.Grid.{Grid, Node, pin, point, places}
 use Rattle.grid.specs.Legal.{Pins, Wiring, Held, Legal, wiringOf, index}
 use Rattle.grid.proofs.Buffer.{point-at}
-use Rattle.sweep.specs.Marks.{at, Spot, a-pin, a-point, val}
-use Rattle.sweep.specs.Edges.{pinAt, pinPlaces}
-use Rattle.sweep.proofs.Places.{spot}
+use Rattle.check_link.specs.Marks.{at}
+use Rattle.check_sweep.specs.Reached.{Spot, a-pin, a-point, val}
+use Rattle.check_sweep.specs.Pins.{pinAt, pinPlaces}
+use Rattle.check_sweep.proofs.Places.{spot}
 use Rattle.checker.specs.Check.{Foreign, FirstForeign, OnePiece, Broken, Judged}
-use Rattle.checker.specs.Marking.{Listed, Opened, FirstUnknown, Torn, noNet}
+use Rattle.check_scan.specs.Scan.{Opened, FirstUnknown, noNet}
+use Rattle.checker.specs.Marking.{PinsListed, Firsts, Torn}
 use Rattle.checker.proofs.Verdict.{Hub, hub, one-piece, broken}
+
+pub all-firsts : (p s k : List ℕ) → length p ≡ pinPlaces → length s ≡ pinPlaces → Opened p s k pinPlaces → Firsts p s
+all-firsts p s k e f o =
+    record {
+      first = λ a ne. o .first a (within s f a ne) ne;
+      marked = λ a h. o .marked a (within p e a (h .some)) h;
+    }
+  where
+    within : (l : List ℕ) → length l ≡ pinPlaces → (a : ℕ) → at l a ≢ 0 → a < pinPlaces
+    within l g a ne = elim (decLt a pinPlaces) [ yes h ↦ h | no n ↦ absurd (ne (List·getD-eq-default l 0 (omega arith))) ]
 
 pin-in : (g : Grid) → g .n ≤ longestSide → g .w ≤ widestGrid → (s : Side) (a : ℕ) → In a (places g s) → pinAt s a < pinPlaces
 pin-in g n w north a i = omega arith
@@ -31,7 +43,7 @@ pin-in g n w east a i = omega arith
 inside-list : (x : List ℕ) (q : ℕ) → at x q ≢ 0 → q < length x
 inside-list x q ne = elim (decLt q (length x)) [ yes h ↦ h | no n ↦ absurd (ne (List·getD-eq-default x 0 (omega arith))) ]
 
-module _ {g : Grid} {p : Pins} {P : List ℕ} (X : List ℕ) (listed : Listed g p P) (size : length X ≡ g .n * g .w * g .k) where
+module _ {g : Grid} {p : Pins} {P : List ℕ} (X : List ℕ) (listed : PinsListed g p P) (size : length X ≡ g .n * g .w * g .k) where
   abbrev x : Wiring
   x = wiringOf g X
 

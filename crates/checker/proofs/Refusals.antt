@@ -20,9 +20,10 @@ use Rattle.problem.specs.Problem.{pinsIn, Good}
 use Rattle.ticket.specs.Read.{ticketOf}
 use Rattle.ticket.proofs.Good.{reading-good}
 use Rattle.ticket.specs.declared.Reading.{Reading}
-use Rattle.sweep.specs.Edges.{pinPlaces, Fits}
+use Rattle.check_sweep.specs.Pins.{pinPlaces, Fits}
 use Rattle.checker.specs.Check.{widthFits, checkRefusal, checkGrid, Checked}
-use Rattle.checker.specs.Marking.{PinList, Judges}
+use Rattle.check_scan.specs.Scan.{PinList}
+use Rattle.checker.specs.Marking.{Judges}
 use Rattle.checker.proofs.Lists.{listed}
 
 small : {kind w : ℕ} → Known kind → In w (widest kind) → In w widestGrid

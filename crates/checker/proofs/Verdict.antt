@@ -9,12 +9,14 @@ use native.Mathlib.Decide.{ℕ-discrete, decLt}
 use Rattle.grid.specs.Grid.{Grid, Node, pin, point, Inside, Edge}
 use Rattle.grid.specs.Legal.{Pins, Wiring, holds, Held, Linked, stay, step, wiringOf}
 use Rattle.grid.proofs.Chains.{last, join, back}
-use Rattle.sweep.specs.Marks as mk
-use Rattle.sweep.specs.Marks.{at, Spot, a-pin, val, Reach}
-use Rattle.sweep.specs.Edges.{pinAt, Edges}
-use Rattle.sweep.proofs.Places.{spot, join-of, found, node-once}
+use Rattle.check_sweep.specs.Reached as mk
+use Rattle.check_link.specs.Marks.{at}
+use Rattle.check_sweep.specs.Reached.{Spot, a-pin, val, Reach}
+use Rattle.check_sweep.specs.Pins.{pinAt, Edges}
+use Rattle.check_sweep.proofs.Places.{spot, join-of, found, node-once}
 use Rattle.checker.specs.Check.{OnePiece, Broken}
-use Rattle.checker.specs.Marking.{First, Listed, Marking}
+use Rattle.check_scan.specs.Scan.{First}
+use Rattle.checker.specs.Marking.{PinsListed, Marking}
 
 -- the first place that holds m, where place b + d holds it and none before b does
 first-from : (P : List ℕ) (m : ℕ) → m ≢ 0 → (d b : ℕ) → at P (b + d) ≡ m → ((c : ℕ) → c < b → at P c ≢ m) → (a : ℕ) × (at P a ≡ m) × First P a
@@ -36,7 +38,7 @@ first-once P a b f h e =
       | no n ↦ elim (decLt b a) [ yes l ↦ absurd (f .none b l (sym e)) | no o ↦ omega arith ]
     ]
 
-module _ {g : Grid} {p : Pins} {P X S M : List ℕ} (listed : Listed g p P) (k : Marking g P X S M) where
+module _ {g : Grid} {p : Pins} {P X S M : List ℕ} (listed : PinsListed g p P) (k : Marking g P X S M) where
   abbrev x : Wiring
   x = wiringOf g X
 

@@ -1,93 +1,32 @@
 -- What the inner functions of Check find, by index. Cited by their contracts alone: Check's own promise is in Check.antt.
 --
---   noNet                 the largest byte, which is no net's number
---   PinList pins list     the list has the four sides' places, and nothing where a grid is wider than any ticket
---   Listed g p list       the list has the pins p of the grid, each at its place, and no others
---   Put list side r from  r is the list with a side's places from `from` on
---   Holder p top v        one of the first top entries of the pin list holds v
---   First p a             pin a is the first in the list that holds its net
+--   PinsListed g p list   the list has the pins p of the grid, each at its place, and no others
 --   Firsts p s            each net's first pin is marked in s, and no other
---   Opened p s k top      of the first top pins: each net's first is marked in s, and k is 0 just for the numbers of no net (of all
---                         bytes; 0 counts as known)
---   FirstUnknown k x r    r is the first point of x whose number is unknown, or x's length
---   Unless known r        r marks a pin whose net was not known yet
---   Bare v mark r         r is v where that is a net without a mark, else noNet
---   Lowest x m top r      r is the smallest number but 0 that one of the first top entries of x holds without a mark in m, or noNet
 --   Marking g p x s m     the marks s and m began with the first pins and have settled
---   LowestOf p s x m r    r is the smallest net of a spot without a mark, or 0
 --   Torn g p x r          r is the smallest net with a spot that settled marks leave out, or 0
 --   Judges g list x r     r is what Check finds, whatever the pins that the list has
-use Prim.Native.Nat.{ℕ, _+_, _-_, _≤_, _<_}
+use Prim.Native.Nat.{ℕ, _≤_}
 use mathlib.Core.Path.{_≡_}
-use mathlib.Core.Logic.{_⊎_, _≢_}
+use mathlib.Core.Logic.{_≢_}
 use mathlib.Core.List.{List}
-use lib.ListN.{length}
 use Rattle.counting.specs.Counting.{In}
 use Rattle.terms.specs.Kinds.{Side}
-use Rattle.terms.specs.Limits.{longestSide, widestGrid, largestNet, byteValues}
+use Rattle.terms.specs.Limits.{longestSide, widestGrid, largestNet}
 use Rattle.terms.specs.declared.Refusal.{Refusal}
 use Rattle.grid.specs.Grid.{Grid, places}
 use Rattle.grid.specs.Legal.{Pins}
-use Rattle.problem.specs.declared.Pins.{Pins as TicketPins}
-use Rattle.sweep.specs.Marks.{at, Spot, val, two, Settled}
-use Rattle.sweep.specs.Edges.{southStart, westStart, eastStart, pinPlaces, pinAt, Edges}
+use Rattle.check_link.specs.Marks.{at}
+use Rattle.check_sweep.specs.Reached.{val, two, Settled}
+use Rattle.check_sweep.specs.Pins.{pinAt, Edges}
+use Rattle.check_scan.specs.Scan.{First, LowestOf}
 use Rattle.checker.specs.Check.{Judged}
 
-abbrev pub noNet : ℕ
-noNet = byteValues - 1
-
-pub record PinList (pins : TicketPins) (list : List ℕ) : Type 0 where
-  pub size : length list ≡ pinPlaces
-  pub north : (i : ℕ) → i < longestSide → at list i ≡ at (pins .north) i
-  pub south : (i : ℕ) → i < longestSide → at list (southStart + i) ≡ at (pins .south) i
-  pub west : (i : ℕ) → i < longestSide → at list (westStart + i) ≡ at (pins .west) i
-  pub east : (i : ℕ) → i < longestSide → at list (eastStart + i) ≡ at (pins .east) i
-  pub west-past : (i : ℕ) → longestSide ≤ i → i < widestGrid → at list (westStart + i) ≡ 0
-  pub east-past : (i : ℕ) → longestSide ≤ i → i < widestGrid → at list (eastStart + i) ≡ 0
-
-pub record Listed (g : Grid) (p : Pins) (list : List ℕ) : Type 0 where
+pub record PinsListed (g : Grid) (p : Pins) (list : List ℕ) : Type 0 where
   pub long : In (g .n) longestSide
   pub wide : In (g .w) widestGrid
   pub there : (s : Side) (a : ℕ) → In a (places g s) → p s a ≡ at list (pinAt s a)
   pub back : (b : ℕ) → at list b ≢ 0 → (s : Side) × (a : ℕ) × In a (places g s) × (pinAt s a ≡ b)
   pub small : (b : ℕ) → at list b ≤ largestNet
-
-pub record Put (list side r : List ℕ) (from : ℕ) : Type 0 where
-  pub size : length r ≡ length list
-  pub inside : (i : ℕ) → i < longestSide → at r (from + i) ≡ at side i
-  pub outside : (b : ℕ) → (b < from) ⊎ (from + longestSide ≤ b) → at r b ≡ at list b
-
-abbrev pub Holder : List ℕ → ℕ → ℕ → Type 0
-Holder p top v = (a : ℕ) × (a < top) × (at p a ≡ v)
-
-pub record First (p : List ℕ) (a : ℕ) : Type 0 where
-  pub some : at p a ≢ 0
-  pub none : (b : ℕ) → b < a → at p b ≢ at p a
-
-pub record Opened (p s k : List ℕ) (top : ℕ) : Type 0 where
-  pub first : (a : ℕ) → a < top → at s a ≢ 0 → First p a
-  pub marked : (a : ℕ) → a < top → First p a → at s a ≢ 0
-  pub known : (v : ℕ) → v < byteValues → at k v ≢ 0 → (v ≡ 0) ⊎ Holder p top v
-  pub unknown : (v : ℕ) → v < byteValues → at k v ≡ 0 → (v ≢ 0) × (Holder p top v → ⊥)
-
-pub record FirstUnknown (k x : List ℕ) (r : ℕ) : Type 0 where
-  pub within : r ≤ length x
-  pub before : (q : ℕ) → q < r → at k (at x q) ≢ 0
-  pub found : r < length x → at k (at x r) ≡ 0
-
-pub record Unless (known r : ℕ) : Type 0 where
-  pub new : known ≡ 0 → r ≢ 0
-  pub old : known ≢ 0 → r ≡ 0
-
-pub record Bare (v mark r : ℕ) : Type 0 where
-  pub net : v ≢ 0 → mark ≡ 0 → r ≤ v
-  pub has : r < noNet → (v ≡ r) × (mark ≡ 0) × (r ≢ 0)
-  pub small : r ≤ noNet
-
-pub record Lowest (x m : List ℕ) (top r : ℕ) : Type 0 where
-  pub small : r ≤ noNet
-  pub under : (a : ℕ) → a < top → at x a ≢ 0 → at m a ≡ 0 → r ≤ at x a
-  pub has : r < noNet → (a : ℕ) × (a < top) × (at x a ≡ r) × (at m a ≡ 0) × (r ≢ 0)
 
 pub record Firsts (p s : List ℕ) : Type 0 where
   pub first : (a : ℕ) → at s a ≢ 0 → First p a
@@ -100,10 +39,6 @@ pub record Marking (g : Grid) (p x s m : List ℕ) : Type 0 where
   pub clear : (q : ℕ) → at m₀ q ≡ 0
   pub settled : Settled (val p x) (two s₀ m₀) (two s m) (Edges g)
 
-pub record LowestOf (p s x m : List ℕ) (r : ℕ) : Type 0 where
-  pub under : (a : Spot) → val p x a ≢ 0 → val p x a < noNet → (r ≡ 0) ⊎ (val p x a < r) → val s m a ≢ 0
-  pub has : r ≢ 0 → (a : Spot) × (val p x a ≡ r) × (val s m a ≡ 0)
-
 pub record Torn (g : Grid) (p x : List ℕ) (r : ℕ) : Type 0 where
   pub s : List ℕ
   pub m : List ℕ
@@ -111,4 +46,4 @@ pub record Torn (g : Grid) (p x : List ℕ) (r : ℕ) : Type 0 where
   pub lowest : LowestOf p s x m r
 
 pub record Judges (g : Grid) (list x : List ℕ) (r : Refusal) : Type 0 where
-  pub judged : (p : Pins) → Listed g p list → Judged g p x r
+  pub judged : (p : Pins) → PinsListed g p list → Judged g p x r

@@ -12,11 +12,11 @@ use lib.Seq.{getD-set-same, getD-set-other, set-getD}
 use Rattle.counting.specs.Counting.{In, bit, count}
 use Rattle.counting.proofs.Sums.{split, sum-change, sum-more, sum-grows, sum-part}
 use Rattle.counting.proofs.Counts.{count-same, count-le}
-use Rattle.terms.specs.Limits.{largestNet}
+use Rattle.terms.specs.Limits.{largestNet, netEntries}
 use Rattle.grid.specs.Legal.{entry, nets}
 use Rattle.switchbox_law.specs.Rules.{wanted}
 use Rattle.switchbox_law.specs.Drawing.{Lanes}
-use Rattle.lanes.specs.Tables.{Nets, tallies, Asked}
+use Rattle.lanes.specs.Tables.{mostLanes, Nets, tallies, Asked}
 use Rattle.lanes.specs.Placing.{Took, Listed, Distinct, Spread}
 use Rattle.lanes.proofs.Tables.{entry-at}
 
@@ -24,16 +24,16 @@ use Rattle.lanes.proofs.Tables.{entry-at}
 pub within : (own : List ℕ) (i : ℕ) → getD own i 0 ≢ 0 → i < length own
 within own i z = elim (decLe (length own) i) [ yes l ↦ absurd (z (List·getD-eq-default own 0 l)) | no l ↦ omega arith ]
 
-pub small-net : (own : List ℕ) (i : ℕ) → Nets own → getD own i 0 ≤ 180
+pub small-net : (own : List ℕ) (i : ℕ) → Nets own → getD own i 0 ≤ largestNet
 small-net own i h = elim (decLe (length own) i) [ yes l ↦ omega (arith, List·getD-eq-default own 0 l) | no l ↦ h .small i (omega arith) ]
 
 -- ---- the first pass
 
 abbrev blank : List ℕ
-blank = replicate 180 0
+blank = replicate mostLanes 0
 
 blank-at : (j : ℕ) → getD blank j 0 ≡ 0
-blank-at j = elim (decLe 180 j) [ yes l ↦ List·getD-eq-default blank 0 {n = j} l | no l ↦ getD-replicate 180 j 0 0 (omega arith) ]
+blank-at j = elim (decLe mostLanes j) [ yes l ↦ List·getD-eq-default blank 0 {n = j} l | no l ↦ getD-replicate mostLanes j 0 0 (omega arith) ]
 
 pub took-none : (own : List ℕ) (need : List Bool) (spare : List ℕ) → Took own need need spare blank 0 0
 took-none own need spare = record {
@@ -48,8 +48,8 @@ took-none own need spare = record {
   all = refl;
 }
 
-module _ (own : List ℕ) (need left : List Bool) (spare lanes : List ℕ) (n i : ℕ) (h : Took own need left spare lanes n i) (l : i < 180)
-    (wide : length left ≡ 181) (room : length spare ≡ 181) (small : getD own i 0 ≤ 180) (none : getD need 0 false ≡ false) where
+module _ (own : List ℕ) (need left : List Bool) (spare lanes : List ℕ) (n i : ℕ) (h : Took own need left spare lanes n i) (l : i < mostLanes)
+    (wide : length left ≡ netEntries) (room : length spare ≡ netEntries) (small : getD own i 0 ≤ largestNet) (none : getD need 0 false ≡ false) where
   -- lane i is no net's yet
   fresh : getD lanes i 0 ≡ 0
   fresh = by-cases (ℕ-discrete (getD lanes i 0) 0) (λ e. e) (λ z. absurd (omega (arith, h .mine i z .0)))
@@ -193,8 +193,8 @@ module _ (left : List Bool) where
   pub listed-none : (list : List ℕ) → Listed left list 0
   listed-none list = record { is = λ p l. absurd (omega arith) }
 
-  pub listed-more : (list : List ℕ) (k n c : ℕ) → length list ≡ 181 → k < 180 → n ≡ among k → c ≡ bit (getD left (k + 1) false) → Listed left list n
-      → (n + c ≡ among (k + 1)) × Listed left (set list n (k + 1)) (n + c)
+  pub listed-more : (list : List ℕ) (k n c : ℕ) → length list ≡ netEntries → k < largestNet → n ≡ among k → c ≡ bit (getD left (k + 1) false)
+      → Listed left list n → (n + c ≡ among (k + 1)) × Listed left (set list n (k + 1)) (n + c)
   listed-more list k n c len l r e h = (omega (arith, next), record { is = λ p b. go p b (ℕ-discrete p n) })
     where
       next : among (k + 1) ≡ among k + bit (getD left (k + 1) false)
@@ -212,7 +212,7 @@ module _ (left : List Bool) where
 
 -- ---- the second pass
 
-pub spread-none : (placed spare list : List ℕ) → length placed ≡ 180 → Spread placed spare list 0 placed
+pub spread-none : (placed spare list : List ℕ) → length placed ≡ mostLanes → Spread placed spare list 0 placed
 spread-none placed spare list len = record { long = len; put = λ p l. absurd (omega arith); kept = λ i f. refl }
 
 pub spread-more : (placed spare list lanes : List ℕ) (n p : ℕ) → Distinct spare n → p < n → Spread placed spare list p lanes
@@ -237,7 +237,7 @@ find xs (suc n) v = by-cases (ℕ-discrete (getD xs n 0) v)
 -- ---- both passes
 
 module _ (first : Bool) (a b c d own : List ℕ) (top : ℕ) (ask : Asked a b c d own top first)
-    (need : List Bool) (needed : (m : ℕ) → m < 181 → getD need m false ≡ wanted first (tallies a b c d) m)
+    (need : List Bool) (needed : (m : ℕ) → m < netEntries → getD need m false ≡ wanted first (tallies a b c d) m)
     (left : List Bool) (spare placed : List ℕ) (n : ℕ) (took : Took own need left spare placed n top) where
   -- there are lanes enough
   enough : nets (λ m. getD left m false) ≤ n

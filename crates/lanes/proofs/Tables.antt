@@ -13,6 +13,7 @@ use borrow.Author.Tests.{eq-eqb, ne-eqb}
 use Rattle.counting.specs.Counting.{bit, count}
 use Rattle.counting.proofs.Sums.{sum-more, sum-none}
 use Rattle.counting.proofs.Counts.{count-le}
+use Rattle.terms.specs.Limits.{netEntries}
 use Rattle.grid.specs.Legal.{entry}
 use Rattle.lanes.specs.Tables.{Halved}
 
@@ -23,12 +24,12 @@ entry-at xs (suc j) h = ap (λ (i : ℕ). getD xs i 0) (omega arith)
 -- ---- counts
 
 abbrev blank : List ℕ
-blank = replicate 181 0
+blank = replicate netEntries 0
 
-pub halved-none : (xs odd : List ℕ) → ((m : ℕ) → m < 181 → getD odd m 0 ≡ 0) → Halved xs 0 blank odd
+pub halved-none : (xs odd : List ℕ) → ((m : ℕ) → m < netEntries → getD odd m 0 ≡ 0) → Halved xs 0 blank odd
 halved-none xs odd none = record {
   is = λ m l. (
-      let first : getD blank m 0 ≡ 0 = getD-replicate 181 m 0 0 l in
+      let first : getD blank m 0 ≡ 0 = getD-replicate netEntries m 0 0 l in
       omega (arith, none m l, sum-none (λ a. bit (eqb (entry xs a) m))));
 }
 
@@ -36,17 +37,17 @@ pub halved-swap : {xs : List ℕ} {n : ℕ} {c d : List ℕ} → Halved xs n c d
 halved-swap h = record { is = λ m l. omega (arith, h .is m l) }
 
 -- no count is above the number of places
-pub halved-le : (xs : List ℕ) (n : ℕ) (c d : List ℕ) (v : ℕ) → v < 181 → Halved xs n c d → getD c v 0 ≤ n
+pub halved-le : (xs : List ℕ) (n : ℕ) (c d : List ℕ) (v : ℕ) → v < netEntries → Halved xs n c d → getD c v 0 ≤ n
 halved-le xs n c d v l h = omega (arith, h .is v l, count-le (λ a. eqb (entry xs a) v) n)
 
-pub halved-more : (xs c d : List ℕ) (n v : ℕ) → v ≡ getD xs n 0 → v < 181 → length c ≡ 181 → Halved xs n c d → Halved xs (n + 1)
+pub halved-more : (xs c d : List ℕ) (n v : ℕ) → v ≡ getD xs n 0 → v < netEntries → length c ≡ netEntries → Halved xs n c d → Halved xs (n + 1)
     (set c v (getD c v 0 + 1)) d
 halved-more xs c d n v e l len h = record { is = λ m b. go m b (ℕ-discrete m v) }
   where
     more : (m : ℕ) → count (λ a. eqb (entry xs a) m) (n + 1) ≡ count (λ a. eqb (entry xs a) m) n + bit (eqb (getD xs n 0) m)
     more m = sum-more (λ a. bit (eqb (entry xs a) m)) n ∙ ap (λ (v : ℕ). count (λ a. eqb (entry xs a) m) n + bit (eqb v m)) (rw add-one)
 
-    go : (m : ℕ) → m < 181 → Dec (m ≡ v) → getD (set c v (getD c v 0 + 1)) m 0 + getD d m 0 ≡ count (λ a. eqb (entry xs a) m) (n + 1)
+    go : (m : ℕ) → m < netEntries → Dec (m ≡ v) → getD (set c v (getD c v 0 + 1)) m 0 + getD d m 0 ≡ count (λ a. eqb (entry xs a) m) (n + 1)
     go m b (yes f) =
         let hit : bit (eqb (getD xs n 0) m) ≡ 1 = ap bit (eq-eqb (getD xs n 0) m (sym e ∙ sym f)) in
         let here : getD (set c v (getD c v 0 + 1)) m 0 ≡ getD c m 0 + 1 = rw f (getD-set-same c v (getD c v 0 + 1) 0 (omega arith)) in
@@ -59,7 +60,7 @@ halved-more xs c d n v e l len h = record { is = λ m b. go m b (ℕ-discrete m 
 abbrev pub Summed : List ℕ → List ℕ → List ℕ → ℕ → Type 0
 Summed c d counts k = (m : ℕ) → m < k → getD counts m 0 ≡ getD c m 0 + getD d m 0
 
-pub summed-more : (c d counts : List ℕ) (k : ℕ) → length counts ≡ 181 → k < 181 → Summed c d counts k → Summed c d
+pub summed-more : (c d counts : List ℕ) (k : ℕ) → length counts ≡ netEntries → k < netEntries → Summed c d counts k → Summed c d
     (set counts k (getD c k 0 + getD d k 0)) (k + 1)
 summed-more c d counts k len l old m b = by-cases (ℕ-discrete m k)
     (λ f. rw f (getD-set-same counts k (getD c k 0 + getD d k 0) 0 (omega arith)))

@@ -10,6 +10,7 @@ use native.Mathlib.Decide.{ℕ-discrete}
 use lib.Dec.{leb, eqb}
 use lib.ListN.{length, getD, set}
 use lib.Seq.{getD-set-same, getD-set-other}
+use Rattle.terms.specs.Limits.{netEntries, largestNet}
 use Rattle.terms.specs.Kinds.{north, south, west, east}
 use Rattle.switchbox_law.specs.Rules.{Tally, corner, alternate, gets, pair, wanted}
 
@@ -17,7 +18,8 @@ use Rattle.switchbox_law.specs.Rules.{Tally, corner, alternate, gets, pair, wan
 abbrev pub Told : (ℕ → Bool) → List Bool → ℕ → Type 0
 Told f out k = (m : ℕ) → m < k → getD out m false ≡ f m
 
-pub told-more : (f : ℕ → Bool) (out : List Bool) (k : ℕ) (r : Bool) → length out ≡ 181 → k < 181 → r ≡ f k → Told f out k → Told f (set out k r) (k + 1)
+pub told-more : (f : ℕ → Bool) (out : List Bool) (k : ℕ) (r : Bool) → length out ≡ netEntries → k < netEntries → r ≡ f k → Told f out k
+    → Told f (set out k r) (k + 1)
 told-more f out k r len b e old m l = by-cases (ℕ-discrete m k)
     (λ d. rw d (getD-set-same out k r false (omega arith) ∙ e))
     (λ d. getD-set-other out k m r false d ∙ old m (omega (arith, d)))
@@ -46,7 +48,7 @@ turn-more first z k p mine e f = rw (e, f, add-one)
 abbrev pub Turned : Bool → (ℕ → Bool) → List Bool → ℕ → Type 0
 Turned first z out k = (m : ℕ) → m < k → getD out (m + 1) false ≡ alternate first z m
 
-pub turned-more : (first : Bool) (z : ℕ → Bool) (out : List Bool) (k : ℕ) (mine : Bool) → length out ≡ 181 → k < 180 → mine ≡ alternate first z k
+pub turned-more : (first : Bool) (z : ℕ → Bool) (out : List Bool) (k : ℕ) (mine : Bool) → length out ≡ netEntries → k < largestNet → mine ≡ alternate first z k
     → Turned first z out k → Turned first z (set out (k + 1) mine) (k + 1)
 turned-more first z out k mine len b e old m l = by-cases (ℕ-discrete m k)
     (λ d. rw d (getD-set-same out (k + 1) mine false (omega arith) ∙ e))
@@ -58,11 +60,11 @@ turn-same first z z′ zero e = refl
 turn-same first z z′ (suc k) e = rw (e (suc k) (omega arith), turn-same first z z′ k (λ m l. e m (omega arith)))
 
 -- a net is wanted if it gets a track alone, or is a pair whose turn it is
-pub wanted-by : (first : Bool) (t : ℕ → Tally) (alone pairs turn out : List Bool) → length out ≡ 181
-    → ((m : ℕ) → m < 181 → getD alone m false ≡ gets (t m) false) → ((m : ℕ) → m < 181 → getD pairs m false ≡ pair (t m))
-    → Turned first (λ k. getD pairs k false) turn 180
-    → ((m : ℕ) → m < 181 → getD out m false ≡ (getD alone m false || (getD pairs m false && getD turn m false)))
-    → (m : ℕ) → m < 181 → getD (set out 0 false) m false ≡ wanted first t m
+pub wanted-by : (first : Bool) (t : ℕ → Tally) (alone pairs turn out : List Bool) → length out ≡ netEntries
+    → ((m : ℕ) → m < netEntries → getD alone m false ≡ gets (t m) false) → ((m : ℕ) → m < netEntries → getD pairs m false ≡ pair (t m))
+    → Turned first (λ k. getD pairs k false) turn largestNet
+    → ((m : ℕ) → m < netEntries → getD out m false ≡ (getD alone m false || (getD pairs m false && getD turn m false)))
+    → (m : ℕ) → m < netEntries → getD (set out 0 false) m false ≡ wanted first t m
 wanted-by first t alone pairs turn out len a p u o zero l = getD-set-same out 0 false false (omega arith)
 wanted-by first t alone pairs turn out len a p u o (suc k) l =
     let turn-is : getD turn (suc k) false ≡ alternate first (λ m. pair (t m)) k

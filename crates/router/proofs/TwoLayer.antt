@@ -17,7 +17,7 @@ use Rattle.problem.specs.Problem.{pinsIn, shapeOf, Another, Good}
 use Rattle.figures.specs.declared.Figures.{Figures}
 use Rattle.figures.specs.Figures.{figuresOf}
 use Rattle.two_layer_law.specs.Solid.{solid}
-use Rattle.two_layer_law.specs.Cuts.{tracksOf}
+use Rattle.two_layer_law.specs.Cuts.{opTracks}
 use Rattle.two_layer_law.specs.Moves.{solidTest, widthFor}
 use Rattle.two_layer_law.proofs.Channels.{Channel}
 use Rattle.two_layer_law.proofs.Solidity.{solid-test}
@@ -26,7 +26,7 @@ use Rattle.two_layer_law.proofs.Gathering.{Several}
 use Rattle.two_layer_law.proofs.Planning.{few-tracks}
 use Rattle.two_layer_plan.specs.declared.Plan.{Plan}
 use Rattle.two_layer_plan.specs.Plan.{Planned}
-use Rattle.two_layer.specs.Given.{down, up, Given}
+use Rattle.two_layer.specs.Given.{fromNorth, fromSouth, Layable}
 use Rattle.two_layer.proofs.Laying.{width}
 use Rattle.router.specs.Lay.{laidWidth, needed, laidAnswer, laidGrid}
 use Rattle.router.proofs.Laws.{same-grid, laid-in, two-sided, two-layer-tracks, two-layer-layers, two-layer-first}
@@ -117,7 +117,7 @@ module _ (q : Problem) (good : Good q) (two : q .kind ≡ twoLayer) where
     solid-found = found .solid ∙ sym solid-is
 
     module _ (wirable : plan .solid ≡ false) where
-      pub given : Given (q .pins .north) (q .pins .south) n plan
+      pub given : Layable (q .pins .north) (q .pins .south) n plan
       given = record {
         channel = subst (Channel n) (sym (two-sided q bare-west bare-east)) channel-of;
         several-norths = several-norths;
@@ -126,7 +126,7 @@ module _ (q : Problem) (good : Good q) (two : q .kind ≡ twoLayer) where
         wirable = wirable;
       }
 
-      pub tracks-laid : (w : ℕ) → w ≡ tracksOf (down plan) (up plan) → w ≡ widthFor (p north) (p south) n
+      pub tracks-laid : (w : ℕ) → w ≡ opTracks (fromNorth plan) (fromSouth plan) → w ≡ widthFor (p north) (p south) n
       tracks-laid w e = e ∙ width given
 
   module _ (w : ℕ) (e : w ≡ widthFor (p north) (p south) n) (f : Figures) (same : f ≡ figuresOf q) where

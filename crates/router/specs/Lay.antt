@@ -127,7 +127,8 @@ pub record Lays (s before after : List ℕ) (r : LayAnswer) : Type 0 where
       → (1 ≤ r .w .0) × (4 * r .w .0 ≤ 7 * r .n .0) × (r .k .0 ≡ 2) × (r .first ≡ false)
   pub unwirable : ticketOf s .refusal .number ≡ 0 → isSolid (problemOf s) ≡ true
       → (g : Grid) (x : Wiring) → GridOf twoLayer (problemOf s .n .0) 0 g → g .k ≡ 2 → ¬ (Legal g (ticketPins s) x)
-  pub enough : ticketOf s .refusal .number ≡ 0 → r .refusal .number ≡ 10 → (size : ℕ) → r .refusal .place ≤ size → layOf s size .refusal .number ≡ 0
+  pub enough : ticketOf s .refusal .number ≡ 0 → r .refusal .number ≡ 10
+      → (size : ℕ) → r .refusal .place ≤ size → layOf s size .refusal .number ≡ 0
 
 -- ---- between the functions
 

@@ -13,7 +13,7 @@ use Rattle.terms.specs.Kinds.{Side, north, south, west, east}
 use Rattle.grid.specs.Grid.{Grid, Node, pin, point, places, Inside, Joined}
 use Rattle.grid.proofs.Chains.{Near}
 use Rattle.grid.proofs.Neighbours.{Touches, Neighbours, joined-iff}
-use Rattle.table.specs.Decide.{isNear, touches, isJoined, sideNo, sideAt, isSame, over, pinsOn, pinNodes, onTrack, onLayer, nodes}
+use Rattle.table.specs.Decide.{isNear, touches, isJoined, sideNo, sideAt, isSame, over, nodesOn, pinNodes, onTrack, onLayer, nodes}
 use Rattle.table.proofs.Tests.{Tests, tests-eq, tests-and, tests-or, tests-as}
 
 -- ---- joins
@@ -93,8 +93,8 @@ module _ {A : Type 0} (f : ℕ → List A) where
 mem-node : (g : Grid) (u : Node) → Inside g u → Mem u (nodes g)
 mem-node g (pin s a) h =
     let (i, e) = side-no s in
-    let m : Mem (pin s a) (pinsOn g s) = mem-over (λ a. pin s a ∷ []) (places g s) a h (head refl) in
-    mem-left _ (mem-over (λ b. pinsOn g (sideAt b)) 4 (sideNo s) i (subst (λ (t : Side). Mem (pin s a) (pinsOn g t)) (sym e) m))
+    let m : Mem (pin s a) (nodesOn g s) = mem-over (λ a. pin s a ∷ []) (places g s) a h (head refl) in
+    mem-left _ (mem-over (λ b. nodesOn g (sideAt b)) 4 (sideNo s) i (subst (λ (t : Side). Mem (pin s a) (nodesOn g t)) (sym e) m))
 mem-node g (point i j l) h =
     mem-right (pinNodes g)
     (mem-over (onLayer g) (g .k) l (h .2) (mem-over (onTrack g l) (g .w) j (h .1) (mem-over (λ i. point i j l ∷ []) (g .n) i (h .0) (head refl))))
@@ -104,7 +104,7 @@ node-mem g u m = ⊎-elim of-pins of-points (mem-either (pinNodes g) m)
   where
     of-pins : Mem u (pinNodes g) → Inside g u
     of-pins m =
-        let (s, i, m) = over-mem (λ b. pinsOn g (sideAt b)) 4 m in
+        let (s, i, m) = over-mem (λ b. nodesOn g (sideAt b)) 4 m in
         let (a, j, m) = over-mem (λ a. pin (sideAt s) a ∷ []) (places g (sideAt s)) m in
         let e : u ≡ pin (sideAt s) a = eq-of-singleton m in
         subst (Inside g) (sym e) j

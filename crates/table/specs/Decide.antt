@@ -2,7 +2,7 @@
 -- (Tallied), and that Check answers nothing else (Found).
 --
 --   onSide s v from p end  how many net bytes of a side are v; the side has p places, and its bytes are from `from` on, before `end`
---   tally s v              how many net bytes of the ticket are v: as many as the pins that hold v, and quicker to count
+--   bytesOf s v            how many net bytes of the ticket are v: as many as the pins that hold v, and quicker to count
 --   tallied s              what the ticket says, with the pins of each net counted by its bytes
 --   way g l                0 for a horizontal layer, 1 for a vertical one
 --   isNear a b             one of the numbers is the next after the other
@@ -11,7 +11,7 @@
 --   sideNo s, sideAt a     the sides by number, 1 to 4
 --   isSame u v             u and v are one node
 --   over f n               the lists f n, .., f 1 in one
---   pinsOn g s, pinNodes g the pins of side s, and of all sides
+--   nodesOn g s, pinNodes g the pins of side s, and of all sides
 --   onTrack g l j, onLayer g l
 --                          the points of track j of layer l, and of layer l
 --   nodes g                all pins and points
@@ -48,8 +48,8 @@ use Rattle.ticket.specs.Read.{pinsAt, leftOver, noLone, orRefused, acceptedRead
 abbrev pub onSide : List ℕ → ℕ → ℕ → ℕ → ℕ → ℕ
 onSide s v from p end = times s v (from + mapBytes p) (end - (from + mapBytes p))
 
-abbrev pub tally : List ℕ → ℕ → ℕ
-tally s v =
+abbrev pub bytesOf : List ℕ → ℕ → ℕ
+bytesOf s v =
     onSide s v 4 (byte s 1) (northEnd s .at) + onSide s v (northEnd s .at) (byte s 1) (southEnd s .at)
     + onSide s v (southEnd s .at) (byte s 2) (westEnd s .at) + onSide s v (westEnd s .at) (byte s 2) (eastEnd s .at)
 
@@ -58,8 +58,8 @@ tallied s =
     orRefused (headerOf s)
     (orRefused (eastEnd s)
     (orRefused (leftOver s (eastEnd s .at))
-    (orRefused (noLone (least (λ v. eqb (tally s v) 1) largestNet))
-    (acceptedReading (problemAt s (nets (λ v. leb 1 (tally s v))) (pinsAt s (endsOf s)))))))
+    (orRefused (noLone (least (λ v. eqb (bytesOf s v) 1) largestNet))
+    (acceptedReading (problemAt s (nets (λ v. leb 1 (bytesOf s v))) (pinsAt s (endsOf s)))))))
 
 -- ---- nodes
 
@@ -102,11 +102,11 @@ abbrev pub over : {A : Type 0} → (ℕ → List A) → ℕ → List A
 over f zero = []
 over f (suc n) = f (suc n) ++ over f n
 
-abbrev pub pinsOn : Grid → Side → List Node
-pinsOn g s = over (λ a. pin s a ∷ []) (places g s)
+abbrev pub nodesOn : Grid → Side → List Node
+nodesOn g s = over (λ a. pin s a ∷ []) (places g s)
 
 abbrev pub pinNodes : Grid → List Node
-pinNodes g = over (λ a. pinsOn g (sideAt a)) 4
+pinNodes g = over (λ a. nodesOn g (sideAt a)) 4
 
 abbrev pub onTrack : Grid → ℕ → ℕ → List Node
 onTrack g l j = over (λ i. point i j l ∷ []) (g .n)

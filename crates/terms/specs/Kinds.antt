@@ -15,8 +15,8 @@
 --                            its w"
 --   widest kind byte2        the greatest w that Check takes: "w outside 1 to 90, or not a box's own w"; "157 for this kind"
 --   quotient n w             "q = longer side/shorter side, rounded up"
---   layersFor kind n byte2   the layers that Lay uses: "Row: 2h layers", "Channel: 2h + 1 layers", "Box: exactly 2q + 4 layers"; "laid legally on
---                            two layers"
+--   layersFor kind n byte2   the layers that Lay uses: "Row: 2h layers", "Channel: 2h + 1 layers", "Box: exactly 2q + 4 layers";
+--                            "laid legally on two layers"
 --   tracksBound kind         demand 3 speaks of its tracks: "exactly h horizontal layers and exactly w tracks", rows and channels;
 --                            "Demand 3 excludes kind 4"
 --   layersBound kind         demand 3 speaks of its layers and floor: boxes

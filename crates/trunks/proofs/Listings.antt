@@ -11,7 +11,7 @@ use lib.ListN.{length, getD, set, take, length-set, replicate, length-take, leng
 use lib.Seq.{getD-set-same, getD-set-other, take-suc-set}
 use Rattle.counting.specs.Counting.{In}
 use Rattle.trunks.specs.declared.Span.{Span}
-use Rattle.trunks.specs.Listing.{column, Rights, spanOf, Ordered, Listed}
+use Rattle.trunks.specs.Listing.{column, Rights, spanOf, Ordered, SpansListed}
 
 blank : (n a : ℕ) → getD {A = ℕ} (replicate n 0) a 0 ≡ 0
 blank zero a = refl
@@ -65,7 +65,7 @@ ordered-more (u ∷ ss) s o h = (
   ordered-more ss s (o .1) (λ t i. h t (List·Memᴰ·tail i)),
 )
 
-pub list-starts : (pin : ℕ → ℕ) (right : List ℕ) → Listed pin 0 (replicate 256 0) right []
+pub list-starts : (pin : ℕ → ℕ) (right : List ℕ) → SpansListed pin 0 (replicate 256 0) right []
 list-starts pin right = record {
   size = length-replicate {A = ℕ} 256 0;
   seen = λ a h. absurd (omega arith);
@@ -75,9 +75,9 @@ list-starts pin right = record {
   ordered = tt;
 }
 
-module _ (pin : ℕ → ℕ) (q : ℕ) (left right : List ℕ) (ss : List Span) (m : ℕ) (e : m ≡ pin q) (l : Listed pin q left right ss) where
+module _ (pin : ℕ → ℕ) (q : ℕ) (left right : List ℕ) (ss : List Span) (m : ℕ) (e : m ≡ pin q) (l : SpansListed pin q left right ss) where
   -- a net that was met before
-  pub list-skip : 1 ≤ getD left m 0 → Listed pin (q + 1) left right ss
+  pub list-skip : 1 ≤ getD left m 0 → SpansListed pin (q + 1) left right ss
   list-skip met = record {
     size = l .size;
     seen = λ a h. by-cases (ℕ-discrete a q) (again a) (λ ne. l .seen a (omega arith));
@@ -108,7 +108,7 @@ module _ (pin : ℕ → ℕ) (q : ℕ) (left right : List ℕ) (ss : List Span) 
     pub list-met : (ss′ : List Span) → ((s : Span) → List·Memᴰ s ss′ → (s ≡ spanOf left′ right (s .net)) × (1 ≤ s .left) × (s .left < s .right))
         → Ordered ss′
         → ((b : ℕ) → b ≢ m → List·Memᴰ (spanOf left right b) ss → List·Memᴰ (spanOf left right b) ss′) →
-        (column q < getD right m 0 → List·Memᴰ (spanOf left′ right m) ss′) → Listed pin (q + 1) left′ right ss′
+        (column q < getD right m 0 → List·Memᴰ (spanOf left′ right m) ss′) → SpansListed pin (q + 1) left′ right ss′
     list-met ss′ each ordered old now = record {
       size = length-set left m (column q) ∙ l .size;
       seen = seen;
@@ -130,10 +130,10 @@ module _ (pin : ℕ → ℕ) (q : ℕ) (left right : List ℕ) (ss : List Span) 
     kept : (s : Span) → List·Memᴰ s ss → (s ≡ spanOf left′ right (s .net)) × (1 ≤ s .left) × (s .left < s .right)
     kept s i = let (f, one, lt) = l .each s i in (f ∙ rw (there (s .net) (other s i)), one, lt)
 
-    pub list-mark : getD right m 0 ≤ column q → Listed pin (q + 1) left′ right ss
+    pub list-mark : getD right m 0 ≤ column q → SpansListed pin (q + 1) left′ right ss
     list-mark end = list-met ss kept (l .ordered) (λ b ne i. i) (λ lt. absurd (omega arith))
 
-    pub list-more : column q < getD right m 0 → Listed pin (q + 1) left′ right (ss ++ (record { net = m; left = column q; right = getD right m 0 } ∷ []))
+    pub list-more : column q < getD right m 0 → SpansListed pin (q + 1) left′ right (ss ++ (record { net = m; left = column q; right = getD right m 0 } ∷ []))
     list-more lt = list-met (ss ++ (s₀ ∷ [])) each (ordered-more ss s₀ (l .ordered) (λ t i. (before t i, other t i)))
         (λ b ne i. Memᴰ·append-left (s₀ ∷ []) i)
         (λ lt. Memᴰ·append-right ss (List·Memᴰ·head same))
@@ -156,7 +156,7 @@ module _ (pin : ℕ → ℕ) (q : ℕ) (left right : List ℕ) (ss : List Span) 
 
 -- the list is an array's first elements, and the next one is stored behind them
 pub stored : {pin : ℕ → ℕ} {q : ℕ} {left right : List ℕ} (spans : List Span) (count : ℕ) (s : Span) → length spans ≡ 180 → count < 180
-    → Listed pin q left right (take count spans ++ (s ∷ [])) → Listed pin q left right (take (count + 1) (set spans count s))
+    → SpansListed pin q left right (take count spans ++ (s ∷ [])) → SpansListed pin q left right (take (count + 1) (set spans count s))
 stored spans count s size h l = rw (add-one count, take-suc-set spans count s (omega arith)) l
 
 pub short : (n : ℕ) (spans : List Span) → n ≤ 180 → length (take n spans) ≤ 180

@@ -16,35 +16,35 @@ use Rattle.terms.specs.Limits.{largestNet}
 use Rattle.trunks.specs.declared.Span.{Span}
 use Rattle.trunks.specs.declared.Trunks.{Trunks}
 use Rattle.trunks.specs.Packing.{freshPacking, packed, Packable}
-use Rattle.trunks.specs.Listing.{pinAt, column, Rights, spanOf, Listed}
+use Rattle.trunks.specs.Listing.{pinNumber, column, Rights, spanOf, SpansListed}
 use Rattle.trunks.specs.Trunks.{PinIn, Crosses, crossing, Placed}
 use Rattle.trunks.proofs.Gallai.{covering, contains, contains-in, covering-length, covering-few, none-atLeast, Ready, Packs, packs}
 
 -- ---- pins by number, and by column
 
-pin-north : (north south : List ℕ) (c : ℕ) → pinAt north south (2 * c) ≡ getD north c 0
+pin-north : (north south : List ℕ) (c : ℕ) → pinNumber north south (2 * c) ≡ getD north c 0
 pin-north north south c = let half : 2 * c / 2 ≡ c = omega arith in rw (eq-eqb (2 * c % 2) 0 (omega arith), half)
 
-pin-south : (north south : List ℕ) (c : ℕ) → pinAt north south (2 * c + 1) ≡ getD south c 0
+pin-south : (north south : List ℕ) (c : ℕ) → pinNumber north south (2 * c + 1) ≡ getD south c 0
 pin-south north south c = let half : (2 * c + 1) / 2 ≡ c = omega arith in rw (ne-eqb ((2 * c + 1) % 2) 0 (omega arith), half)
 
 -- a pin in a column has a number
-pin-of : (north south : List ℕ) (n c m : ℕ) → In c n → PinIn north south c m → (q : ℕ) × (q < 2 * n) × (pinAt north south q ≡ m) × (column q ≡ c)
+pin-of : (north south : List ℕ) (n c m : ℕ) → In c n → PinIn north south c m → (q : ℕ) × (q < 2 * n) × (pinNumber north south q ≡ m) × (column q ≡ c)
 pin-of north south n zero m h p = absurd (omega arith)
 pin-of north south n (suc c) m h (inl e) = (2 * c, omega arith, pin-north north south c ∙ e, omega arith)
 pin-of north south n (suc c) m h (inr e) = (2 * c + 1, omega arith, pin-south north south c ∙ e, omega arith)
 
 -- and each number is a pin's
-of-pin : (north south : List ℕ) (q c m : ℕ) → c ≡ column q → pinAt north south q ≡ m → PinIn north south c m
+of-pin : (north south : List ℕ) (q c m : ℕ) → c ≡ column q → pinNumber north south q ≡ m → PinIn north south c m
 of-pin north south q c m k f = rw (k, add-one (q / 2), ← f) (split (eqb (q % 2) 0) (λ e. inl (rw e)) (λ e. inr (rw e)))
 
 pin-small : (north south : List ℕ) → ((a : ℕ) → getD north a 0 ≤ largestNet) → ((a : ℕ) → getD south a 0 ≤ largestNet) → (q : ℕ)
-    → pinAt north south q ≤ largestNet
+    → pinNumber north south q ≤ largestNet
 pin-small north south hn hs q = split (eqb (q % 2) 0) (λ e. rw e (hn (q / 2))) (λ e. rw e (hs (q / 2)))
 
 module _ (north south : List ℕ) (n : ℕ) (hn : (a : ℕ) → getD north a 0 ≤ largestNet) (hs : (a : ℕ) → getD south a 0 ≤ largestNet)
-    (left right : List ℕ) (ss : List Span) (size : length ss ≤ 180) (r : Rights (pinAt north south) (2 * n) right)
-    (l : Listed (pinAt north south) (2 * n) left right ss) where
+    (left right : List ℕ) (ss : List Span) (size : length ss ≤ 180) (r : Rights (pinNumber north south) (2 * n) right)
+    (l : SpansListed (pinNumber north south) (2 * n) left right ss) where
   abbrev trunks : Trunks
   trunks = record { left = left; right = right; place = packed freshPacking ss .place }
 
@@ -76,7 +76,7 @@ module _ (north south : List ℕ) (n : ℕ) (hn : (a : ℕ) → getD north a 0 �
 
   pub promised : Placed north south n trunks
   promised = record {
-    all = λ c m i nz p. let (q, h, e, k) = pin-of north south n c m i p in let nz′ : pinAt north south q ≢ 0 = λ z. nz (sym e ∙ z) in
+    all = λ c m i nz p. let (q, h, e, k) = pin-of north south n c m i p in let nz′ : pinNumber north south q ≢ 0 = λ z. nz (sym e ∙ z) in
         (omega (arith, rw e at (l .seen q h .1)), omega (arith, rw e at (r .seen q h nz′)));
     first = λ m h. let (q, i, e, k) = l .from m (few m h .1) in (omega arith, of-pin north south q _ m k e);
     last = λ m h. let (q, i, e, k) = r .from m (omega arith) in (omega arith, of-pin north south q _ m k e);

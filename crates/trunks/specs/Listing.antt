@@ -1,13 +1,13 @@
 -- The listing of spans, as the code runs it: what each loop has found once the first q pins are passed, the north and the south pin of each
 -- column in turn. The promise is in Trunks; these are the predicates that the inner functions' contracts cite.
 --
---   pinAt north south q          the net of pin q, counted from 0, or 0
+--   pinNumber north south q      the net of pin q, counted from 0, or 0
 --   column q                     the column of pin q
 --   Rights pin q right           right has the rightmost column of each net, 0 where it has no pin
 --   spanOf left right m          net m's span
 --   Ordered ss                   each span is followed by spans of other nets only, none of which starts further left
---   Listed pin q left right ss   left has the leftmost column of each net, and of the number 0 of empty places, and ss lists the spans of
---                                the nets that lie in more than one column
+--   SpansListed pin q left right ss   left has the leftmost column of each net, and of the number 0 of empty places, and ss lists the
+--                                spans of the nets that lie in more than one column
 use Prim.Native.Nat.{ℕ, _+_, _/_, _%_, _≤_, _<_}
 use mathlib.Core.Path.{_≡_}
 use mathlib.Core.Logic.{_≢_}
@@ -19,8 +19,8 @@ use Rattle.counting.specs.Counting.{In}
 use Rattle.trunks.specs.declared.Span.{Span}
 use Rattle.trunks.specs.Packing.{pick}
 
-abbrev pub pinAt : List ℕ → List ℕ → ℕ → ℕ
-pinAt north south q = pick (eqb (q % 2) 0) (getD north (q / 2) 0) (getD south (q / 2) 0)
+abbrev pub pinNumber : List ℕ → List ℕ → ℕ → ℕ
+pinNumber north south q = pick (eqb (q % 2) 0) (getD north (q / 2) 0) (getD south (q / 2) 0)
 
 abbrev pub column : ℕ → ℕ
 column q = q / 2 + 1
@@ -38,7 +38,7 @@ abbrev pub Ordered : List Span → Type 0
 Ordered [] = Unit {0}
 Ordered (s ∷ ss) = ((t : Span) → List·Memᴰ t ss → (s .left ≤ t .left) × (s .net ≢ t .net)) × Ordered ss
 
-pub record Listed (pin : ℕ → ℕ) (q : ℕ) (left right : List ℕ) (ss : List Span) : Type 0 where
+pub record SpansListed (pin : ℕ → ℕ) (q : ℕ) (left right : List ℕ) (ss : List Span) : Type 0 where
   pub size : length left ≡ byteValues
   pub seen : (e : ℕ) → e < q → In (getD left (pin e) 0) (column e)
   pub from : (m : ℕ) → 1 ≤ getD left m 0 → (e : ℕ) × (e < q) × (pin e ≡ m) × (getD left m 0 ≡ column e)

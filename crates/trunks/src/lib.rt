@@ -6,7 +6,7 @@ ghost use Prim.Native.Nat.{ℕ, _*_, _<_, _≤_};
 ghost use lib.ListN.{length, take, getD};
 ghost use Rattle.terms.specs.Limits.{longestSide, largestNet};
 ghost use Rattle.trunks.specs.Packing.{noSpan, firstFree, freshPacking, placed, packed, Packable};
-ghost use Rattle.trunks.specs.Listing.{pinAt, Rights, Listed};
+ghost use Rattle.trunks.specs.Listing.{pinNumber, Rights, SpansListed};
 ghost use Rattle.trunks.specs.Trunks.{Placed};
 use grid::Column;
 use grid::column_count;
@@ -23,7 +23,7 @@ pub struct Span {
 // The net at pin `q`, counted from 0, of the north and the south pin of each column in turn.
 fn pin_at(north: &[u8; LONGEST_SIDE], south: &[u8; LONGEST_SIDE], q: usize) -> u8
     requires { ⌜ q < 2 * longestSide ⌝ }
-    ensures { λ r. ⌜ r ≡ pinAt (now (north .entry)) (now (south .entry)) q ⌝ }
+    ensures { λ r. ⌜ r ≡ pinNumber (now (north .entry)) (now (south .entry)) q ⌝ }
 {
     let i = q / 2;
     if q % 2 == 0 {
@@ -35,7 +35,7 @@ fn pin_at(north: &[u8; LONGEST_SIDE], south: &[u8; LONGEST_SIDE], q: usize) -> u
 // The rightmost column of each net.
 fn rights(north: &[u8; LONGEST_SIDE], south: &[u8; LONGEST_SIDE], n: usize) -> [u8; BYTE_VALUES]
     requires { ⌜ n ≤ longestSide ⌝ }
-    ensures { λ r. ⌜ Rights (pinAt (now (north .entry)) (now (south .entry))) (2 * n) r ⌝ }
+    ensures { λ r. ⌜ Rights (pinNumber (now (north .entry)) (now (south .entry))) (2 * n) r ⌝ }
 {
     let mut right = [0u8; BYTE_VALUES];
     let pins = 2 * n;
@@ -67,7 +67,7 @@ fn list_spans(
     right: &[u8; BYTE_VALUES],
 ) -> Listing
     requires { ⌜ n ≤ longestSide ⌝ }
-    ensures { λ r. ⌜ (r .count ≤ largestNet) × Listed (pinAt (now (north .entry)) (now (south .entry))) (2 * n) (r .left)
+    ensures { λ r. ⌜ (r .count ≤ largestNet) × SpansListed (pinNumber (now (north .entry)) (now (south .entry))) (2 * n) (r .left)
         (now (right .entry)) (take (r .count) (r .spans)) ⌝ }
 {
     let mut left = [0u8; BYTE_VALUES];

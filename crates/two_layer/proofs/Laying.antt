@@ -13,31 +13,31 @@ use Rattle.terms.specs.Kinds.{north, south}
 use Rattle.grid.specs.Grid.{upright}
 use Rattle.grid.specs.Legal.{Legal, entry, wiringOf, columnPins}
 use Rattle.grid.specs.Laid.{Laid}
-use Rattle.two_layer_law.specs.Cuts.{Ops, Same, Consistent, tracksOf}
-use Rattle.two_layer_law.specs.Moves.{leads, solidTest, several, Gathered, State, moved, next, steps, startOf, movesOf, mostMoves, moves, widthFor}
+use Rattle.two_layer_law.specs.Cuts.{Ops, Same, Consistent, opTracks}
+use Rattle.two_layer_law.specs.Moves.{leads, solidTest, several, Gathered, MoveState, moved, next, steps, startOf, movesOf, mostMoves, moves, widthFor}
 use Rattle.two_layer_law.proofs.Legality.{consistent-legal}
 use Rattle.two_layer_law.proofs.Moving.{Brought, moving}
 use Rattle.two_layer_law.proofs.Gathering.{gathered-runs}
 use Rattle.two_layer_law.proofs.Planning.{movable, few-wrong, few-tracks, width-is, planned}
 use Rattle.two_layer_cuts.specs.Rows.{opsOf}
 use Rattle.two_layer_plan.specs.declared.Plan.{Plan}
-use Rattle.two_layer.specs.Drawing.{Fits, Painted}
-use Rattle.two_layer.specs.Given.{down, up, Few, Given}
+use Rattle.two_layer.specs.Drawing.{OpsFit, ChannelDrawn}
+use Rattle.two_layer.specs.Given.{fromNorth, fromSouth, Few, Layable}
 
-steps-le : (n : ℕ) (goal : ℕ → ℕ) (most : ℕ) (st : State) → steps n goal st most ≤ most
+steps-le : (n : ℕ) (goal : ℕ → ℕ) (most : ℕ) (st : MoveState) → steps n goal st most ≤ most
 unfolding steps
 steps-le n goal zero st = omega arith
 steps-le n goal (suc most) st =
     split (leb 1 (moved n goal st)) (λ e. rw e (omega (arith, steps-le n goal most (next n goal st)))) (λ e. rw e (omega arith))
 
-gathered-fits : {a b : ℕ → ℕ} {n : ℕ} {o : Ops} → Gathered a b n o → Fits n o
+gathered-fits : {a b : ℕ → ℕ} {n : ℕ} {o : Ops} → Gathered a b n o → OpsFit n o
 gathered-fits {a} {b} {n} {o} g = let r = gathered-runs g in record {
   few = omega (arith, g .count, count-le (several a n) largestNet);
   column = r .column;
   ends = r .ends;
 }
 
-module _ {N S : List ℕ} {n : ℕ} {plan : Plan} (given : Given N S n plan) where
+module _ {N S : List ℕ} {n : ℕ} {plan : Plan} (given : Layable N S n plan) where
   abbrev a : ℕ → ℕ
   a = entry N
 
@@ -58,13 +58,13 @@ module _ {N S : List ℕ} {n : ℕ} {plan : Plan} (given : Given N S n plan) whe
   unfolding moves
   few-moves = omega (arith, steps-le n (leads b a n) mostMoves (startOf a b n))
 
-  pub fits-norths : Fits n (opsOf (plan .norths))
+  pub fits-norths : OpsFit n (opsOf (plan .norths))
   fits-norths = gathered-fits (given .planned .norths)
 
-  pub fits-souths : Fits n (opsOf (plan .souths))
+  pub fits-souths : OpsFit n (opsOf (plan .souths))
   fits-souths = gathered-fits (given .planned .souths)
 
-  pub fits-moves : Fits n (opsOf (plan .moves))
+  pub fits-moves : OpsFit n (opsOf (plan .moves))
   fits-moves = record {
     few = omega (arith, same .many, few-moves);
     column = λ s h. subst (λ (t : ℕ). t ≤ n) (sym (same .tos s h)) (made .runs .column s (omega (arith, same .many)));
@@ -77,17 +77,17 @@ module _ {N S : List ℕ} {n : ℕ} {plan : Plan} (given : Given N S n plan) whe
   pub few-operations : Few plan
   few-operations = record { norths = fits-norths .few; moves = fits-moves .few; souths = fits-souths .few }
 
-  pub width : tracksOf (down plan) (up plan) ≡ widthFor a b n
+  pub width : opTracks (fromNorth plan) (fromSouth plan) ≡ widthFor a b n
   width = width-is a b (given .planned .norths) same (given .planned .souths)
 
   pub narrow : widthFor a b n ≤ widestGrid
   narrow = omega (arith, few-tracks (given .channel) open-test, given .channel .columns)
 
-  consistent : Consistent n (columnPins N S) (down plan) (up plan)
+  consistent : Consistent n (columnPins N S) (fromNorth plan) (fromSouth plan)
   consistent = planned (given .channel) open-test (given .planned .norths) same (given .planned .souths) (given .several-norths)
       (given .several-souths)
 
-  pub painted-legal : (w : ℕ) {before after : List ℕ} → w ≡ widthFor a b n → Painted N S n w (down plan) (up plan) before after
+  pub painted-legal : (w : ℕ) {before after : List ℕ} → w ≡ widthFor a b n → ChannelDrawn N S n w (fromNorth plan) (fromSouth plan) before after
       → Laid (upright n w 2) (columnPins N S) before after
   painted-legal w {before} {after} e y = record {
     legal = subst (λ (u : ℕ). Legal (upright n u 2) (columnPins N S) (wiringOf (upright n w 2) after)) (width ∙ sym e)

@@ -14,9 +14,9 @@ use Rattle.counting.specs.Counting.{In}
 use Rattle.terms.specs.Limits.{longestSide}
 use Rattle.grid.specs.Grid.{Grid, upright}
 use Rattle.grid.specs.Legal.{entry, wiringOf}
-use Rattle.two_layer_law.specs.Cuts.{Ops, followed, row, after, cutOf, rowOf, trunkOf, tracksOf}
+use Rattle.two_layer_law.specs.Cuts.{Ops, followed, cutWith, cutAfter, cutOf, rowOf, trunkOf, opTracks}
 use Rattle.two_layer_cuts.specs.Rows.{columnEntries, item, Row}
-use Rattle.two_layer.specs.Drawing.{trunk, trackFrom, OwnTracks, TrackDrawn, ListDrawn, Painted}
+use Rattle.two_layer.specs.Drawing.{trunk, trackFrom, OwnTracks, TrackDrawn, ListDrawn, ChannelDrawn}
 
 -- ---- the cuts of a list that follows another
 
@@ -70,7 +70,7 @@ pub up-own : (w top : ℕ) → top ≤ w → OwnTracks w top (trackFrom false 1)
 up-own w top h = record { inside = λ s l. (omega arith, omega arith); apart = λ s r l m e. absurd (omega arith) }
 
 -- all lists together fit the tracks
-pub all-fit : (w : ℕ) (o m u : Ops) → w ≡ tracksOf (followed o m) u → o .count + m .count + u .count ≤ w
+pub all-fit : (w : ℕ) (o m u : Ops) → w ≡ opTracks (followed o m) u → o .count + m .count + u .count ≤ w
 all-fit w o m u e = omega arith
 
 module _ {g : Grid} {o : Ops} {start track : ℕ → ℕ} where
@@ -83,15 +83,15 @@ module _ {g : Grid} {o : Ops} {start track : ℕ → ℕ} where
     others = λ b h. refl;
   }
 
-  module _ {before now after cut : List ℕ} {s j : ℕ} (few : g .n ≤ longestSide) (more : s < o .count)
+  module _ {before now cutAfter cut : List ℕ} {s j : ℕ} (few : g .n ≤ longestSide) (more : s < o .count)
       (own : OwnTracks (g .w) (o .count) track) (two : 2 ≤ g .k) (r : Row longestSide (cutOf o start s) cut)
       (d : ListDrawn g o start track s before now) (e : j ≡ track s)
-      (t : TrackDrawn g j (row (o .net s) (o .to s) (item cut)) (trunk (o .net s) (o .low s) (o .high s)) now after) where
-    old : (q c l : ℕ) → q < s → In c (g .n) → In l 2 → wiringOf g after c (track q) l ≡ wiringOf g now c (track q) l
+      (t : TrackDrawn g j (cutWith (o .net s) (o .to s) (item cut)) (trunk (o .net s) (o .low s) (o .high s)) now cutAfter) where
+    old : (q c l : ℕ) → q < s → In c (g .n) → In l 2 → wiringOf g cutAfter c (track q) l ≡ wiringOf g now c (track q) l
     old q c l h i k =
         t .kept c (track q) l (i, own .inside q (omega arith), (omega arith, omega arith)) (λ z. own .apart q s h more (z ∙ e))
 
-    pub drawn-next : ListDrawn g o start track (s + 1) before after
+    pub drawn-next : ListDrawn g o start track (s + 1) before cutAfter
     drawn-next = record {
       rows = λ q c h i. by-cases (ℕ-discrete q s)
           (λ z. rw (z, ← e) (t .vertical c i ∙ ap (λ (v : ℕ). cond (eqb c (o .to s)) (o .net s) v) (r .is c (omega arith))))
@@ -109,7 +109,7 @@ unfolding cutOf
 cut-none o start size = record { size = size; is = λ c h. refl }
 
 pub cut-next : (o : Ops) (start : ℕ → ℕ) (s : ℕ) {cut next : List ℕ} → Row longestSide (cutOf o start s) cut
-    → Row longestSide (after (o .net s) (o .to s) (item cut)) next → Row longestSide (cutOf o start (s + 1)) next
+    → Row longestSide (cutAfter (o .net s) (o .to s) (item cut)) next → Row longestSide (cutOf o start (s + 1)) next
 unfolding cutOf
 cut-next o start s r q = record {
   size = q .size;
@@ -119,16 +119,16 @@ cut-next o start s r q = record {
 
 -- ---- all lists: the idle track, then those of the north pins, the moves and those of the south pins
 
-module _ (north south : List ℕ) {blank idle gathered moved after first second third : List ℕ} {n w : ℕ} (o m u : Ops)
-    (wide : w ≡ tracksOf (followed o m) u) (few : n ≤ longestSide) (start : Row longestSide (entry north) first)
+module _ (north south : List ℕ) {blank idle gathered moved cutAfter first second third : List ℕ} {n w : ℕ} (o m u : Ops)
+    (wide : w ≡ opTracks (followed o m) u) (few : n ≤ longestSide) (start : Row longestSide (entry north) first)
     (end : Row longestSide (entry south) third)
-    (z : TrackDrawn (upright n w 2) 1 (row 0 0 (item first)) (trunk 0 1 0) blank idle)
+    (z : TrackDrawn (upright n w 2) 1 (cutWith 0 0 (item first)) (trunk 0 1 0) blank idle)
     (a : ListDrawn (upright n w 2) o (item first) (trackFrom true w) (o .count) idle gathered)
     (led : Row longestSide (cutOf o (item first) (o .count)) second)
     (b : ListDrawn (upright n w 2) m (item second) (trackFrom true (w - o .count)) (m .count) gathered moved)
-    (d : ListDrawn (upright n w 2) u (item third) (trackFrom false 1) (u .count) moved after) where
+    (d : ListDrawn (upright n w 2) u (item third) (trackFrom false 1) (u .count) moved cutAfter) where
   abbrev x : ℕ → ℕ → ℕ → ℕ
-  x = wiringOf (upright n w 2) after
+  x = wiringOf (upright n w 2) cutAfter
 
   room : o .count + m .count + u .count ≤ w
   room = all-fit w o m u wide
@@ -182,10 +182,10 @@ module _ (north south : List ℕ) {blank idle gathered moved after first second 
       nothing true = refl
       nothing false = refl
 
-  idle-row : (c : ℕ) → In c n → row 0 0 (item first) c ≡ entry north c
+  idle-row : (c : ℕ) → In c n → cutWith 0 0 (item first) c ≡ entry north c
   idle-row c i = let ne : c ≢ 0 = (λ e. absurd (omega arith)) in rw (ne-eqb c 0 ne) (start .is c (omega arith))
 
-  pub all-drawn : Painted north south n w (followed o m) u blank after
+  pub all-drawn : ChannelDrawn north south n w (followed o m) u blank cutAfter
   all-drawn = record {
     drawn = record {
       upper = λ s c h i. rw (← wide) (upper s c h i);

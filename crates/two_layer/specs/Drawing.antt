@@ -1,13 +1,13 @@
 -- How the operations of a two-layer channel are drawn, as `draw` promises it and as the inner functions' contracts cite it.
 --
 --   trunk x low high                 what layer 2 holds in a track: net x from column low to column high, 0 elsewhere
---   Fits n o                         no more operations than an array holds, whose columns are those of a side of n places
+--   OpsFit n o                       no more operations than an array holds, whose columns are those of a side of n places
 --   trackFrom down first s           the track of operation s: that of operation 0 is `first`, the next ones go down or up from it
 --   OwnTracks w top track            each of operations 0 to top - 1 has a track of its own, of w tracks
 --   TrackDrawn g j f h before after  track j holds f on layer 1 and h on layer 2, and every other byte of the buffer is as it was
 --   ListDrawn g o start track top before after      the tracks of operations 0 to top - 1 are drawn, the first from the cut `start`, and
 --                                    every other byte is as it was
---   Painted north south n w down up before after    the operations are drawn, and "Bytes past n × w × k are untouched"
+--   ChannelDrawn north south n w down up before after    the operations are drawn, and "Bytes past n × w × k are untouched"
 use Prim.Native.Nat.{ℕ, _+_, _-_, _*_, _≤_, _<_}
 use mathlib.Core.Path.{_≡_}
 use mathlib.Core.Logic.{_≢_}
@@ -19,12 +19,12 @@ use Rattle.counting.specs.Counting.{In}
 use Rattle.terms.specs.Limits.{largestNet}
 use Rattle.grid.specs.Grid.{Grid, upright, point, Inside}
 use Rattle.grid.specs.Legal.{wiringOf, columnPins}
-use Rattle.two_layer_law.specs.Cuts.{Ops, rowOf, trunkOf, Drawn}
+use Rattle.two_layer_law.specs.Cuts.{Ops, rowOf, trunkOf, OpsDrawn}
 
 abbrev pub trunk : ℕ → ℕ → ℕ → ℕ → ℕ
 trunk x low high c = cond (leb low c && leb c high) x 0
 
-pub record Fits (n : ℕ) (o : Ops) : Type 0 where
+pub record OpsFit (n : ℕ) (o : Ops) : Type 0 where
   pub few : o .count ≤ largestNet
   pub column : (s : ℕ) → s < o .count → o .to s ≤ n
   pub ends : (s : ℕ) → s < o .count → (1 ≤ o .low s) × (o .high s ≤ n)
@@ -50,7 +50,7 @@ pub record ListDrawn (g : Grid) (o : Ops) (start track : ℕ → ℕ) (top : ℕ
   pub long : length after ≡ length before
   pub others : (b : ℕ) → g .n * g .w * g .k ≤ b → getD after b 0 ≡ getD before b 0
 
-pub record Painted (north south : List ℕ) (n w : ℕ) (down up : Ops) (before after : List ℕ) : Type 0 where
-  pub drawn : Drawn n (columnPins north south) down up (wiringOf (upright n w 2) after)
+pub record ChannelDrawn (north south : List ℕ) (n w : ℕ) (down up : Ops) (before after : List ℕ) : Type 0 where
+  pub drawn : OpsDrawn n (columnPins north south) down up (wiringOf (upright n w 2) after)
   pub long : length after ≡ length before
   pub others : (b : ℕ) → n * w * 2 ≤ b → getD after b 0 ≡ getD before b 0

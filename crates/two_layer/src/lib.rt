@@ -23,20 +23,20 @@ ghost use Rattle.grid.specs.Grid.{upright};
 ghost use Rattle.grid.specs.Legal.{entry, columnPins};
 ghost use Rattle.grid.specs.Laid.{Laid};
 ghost use Rattle.paint.specs.Paint.{Striped};
-ghost use Rattle.two_layer_law.specs.Cuts.{row, cutOf, followed, tracksOf};
+ghost use Rattle.two_layer_law.specs.Cuts.{cutWith, cutOf, followed, opTracks};
 ghost use Rattle.two_layer_cuts.specs.Rows.{opsOf, item, Row};
 ghost use Rattle.two_layer_law.specs.Moves.{widthFor};
-ghost use Rattle.two_layer.specs.Given.{down, up, Few, Given};
-ghost use Rattle.two_layer.specs.Drawing.{trunk, Fits, trackFrom, OwnTracks, TrackDrawn, ListDrawn, Painted};
+ghost use Rattle.two_layer.specs.Given.{fromNorth, fromSouth, Few, Layable};
+ghost use Rattle.two_layer.specs.Drawing.{trunk, OpsFit, trackFrom, OwnTracks, TrackDrawn, ListDrawn, ChannelDrawn};
 
 // The bytes of a track on layer 1: the row's entries from column 1 on.
-fn draw_row(part: &mut [u8], row: &[u8; COLUMN_ENTRIES])
+fn draw_row(part: &mut [u8], cutWith: &[u8; COLUMN_ENTRIES])
     requires { ⌜ length (now part) ≤ longestSide ⌝ }
     ensures { λ _. ⌜ Striped (now (part .entry)) (now (part .exit)) (length (now (part .entry))) 1
-        (λ i j. item (now (row .entry)) (suc i)) ⌝ }
+        (λ i j. item (now (cutWith .entry)) (suc i)) ⌝ }
 {
     for i in 0..part.len() {
-        part[i] = row[i + 1];
+        part[i] = cutWith[i + 1];
     }
 }
 
@@ -67,26 +67,26 @@ fn draw_track(
 )
     requires { ⌜ In (n .0) longestSide × (w .0 ≤ widestGrid) × In (j .0) (w .0) × (n .0 * w .0 * 2 ≤ length (now wiring)) ⌝ }
     requires { ⌜ (t ≤ n .0) × (1 ≤ low) × (high ≤ n .0) ⌝ }
-    ensures { λ _. ⌜ TrackDrawn (upright (n .0) (w .0) 2) (j .0) (row x t (item cut)) (trunk x low high) (now (wiring .entry))
+    ensures { λ _. ⌜ TrackDrawn (upright (n .0) (w .0) 2) (j .0) (cutWith x t (item cut)) (trunk x low high) (now (wiring .entry))
         (now (wiring .exit)) ⌝ }
 {
-    let mut row = cut;
-    row[wide(t)] = x;
+    let mut cutWith = cut;
+    cutWith[wide(t)] = x;
     let columns = column_count(n);
     let one = index_of(Column(1), j, Layer(1), n, w, Layer(2));
     let end = one + columns;
-    draw_row(&mut wiring[one..end], &row);
+    draw_row(&mut wiring[one..end], &cutWith);
     let two = index_of(Column(1), j, Layer(2), n, w, Layer(2));
     let last = two + columns;
     draw_trunk(&mut wiring[two..last], x, low, high);
 }
 
 // Operation s's track: that of operation 0 is `first`.
-fn track_from(down: bool, first: usize, s: usize) -> usize
-    requires { ⌜ In (trackFrom down first s) widestGrid ⌝ }
-    ensures { λ r. ⌜ r ≡ trackFrom down first s ⌝ }
+fn track_from(fromNorth: bool, first: usize, s: usize) -> usize
+    requires { ⌜ In (trackFrom fromNorth first s) widestGrid ⌝ }
+    ensures { λ r. ⌜ r ≡ trackFrom fromNorth first s ⌝ }
 {
-    if down {
+    if fromNorth {
         return first - s;
     }
     first + s
@@ -96,15 +96,15 @@ fn track_from(down: bool, first: usize, s: usize) -> usize
 fn draw_list(
     start: [u8; COLUMN_ENTRIES],
     o: Operations,
-    down: bool,
+    fromNorth: bool,
     first: usize,
     n: Column,
     w: Track,
     wiring: &mut [u8],
 ) -> [u8; COLUMN_ENTRIES]
     requires { ⌜ In (n .0) longestSide × (w .0 ≤ widestGrid) × (n .0 * w .0 * 2 ≤ length (now wiring)) ⌝ }
-    requires { ⌜ Fits (n .0) (opsOf o) × OwnTracks (w .0) (o .count) (trackFrom down first) ⌝ }
-    ensures { λ r. ⌜ ListDrawn (upright (n .0) (w .0) 2) (opsOf o) (item start) (trackFrom down first) (o .count) (now (wiring .entry))
+    requires { ⌜ OpsFit (n .0) (opsOf o) × OwnTracks (w .0) (o .count) (trackFrom fromNorth first) ⌝ }
+    ensures { λ r. ⌜ ListDrawn (upright (n .0) (w .0) 2) (opsOf o) (item start) (trackFrom fromNorth first) (o .count) (now (wiring .entry))
         (now (wiring .exit)) × Row longestSide (cutOf (opsOf o) (item start) (o .count)) r ⌝ }
 {
     let mut cut = start;
@@ -112,7 +112,7 @@ fn draw_list(
     while s < o.count {
         let x = o.nets[s];
         let t = o.tos[s];
-        let j = track_from(down, first, s);
+        let j = track_from(fromNorth, first, s);
         draw_track(cut, x, t, o.lows[s], o.highs[s], Track(j), n, w, wiring);
         let next = cut_after(&cut, x, t);
         cut = next;
@@ -132,9 +132,9 @@ fn draw(
     wiring: &mut [u8],
 )
     requires { ⌜ In (n .0) longestSide × (w .0 ≤ widestGrid) × (n .0 * w .0 * 2 ≤ length (now wiring)) ⌝ }
-    requires { ⌜ w .0 ≡ tracksOf (followed (opsOf (plan .norths)) (opsOf (plan .moves))) (opsOf (plan .souths)) ⌝ }
-    requires { ⌜ Fits (n .0) (opsOf (plan .norths)) × Fits (n .0) (opsOf (plan .moves)) × Fits (n .0) (opsOf (plan .souths)) ⌝ }
-    ensures { λ _. ⌜ Painted (now (north .entry)) (now (south .entry)) (n .0) (w .0)
+    requires { ⌜ w .0 ≡ opTracks (followed (opsOf (plan .norths)) (opsOf (plan .moves))) (opsOf (plan .souths)) ⌝ }
+    requires { ⌜ OpsFit (n .0) (opsOf (plan .norths)) × OpsFit (n .0) (opsOf (plan .moves)) × OpsFit (n .0) (opsOf (plan .souths)) ⌝ }
+    ensures { λ _. ⌜ ChannelDrawn (now (north .entry)) (now (south .entry)) (n .0) (w .0)
         (followed (opsOf (plan .norths)) (opsOf (plan .moves))) (opsOf (plan .souths)) (now (wiring .entry)) (now (wiring .exit)) ⌝ }
 {
     let top = track_count(w);
@@ -152,7 +152,7 @@ fn draw(
 // The tracks that a channel's operations take.
 pub fn tracks(plan: Plan) -> Track
     requires { ⌜ Few plan ⌝ }
-    ensures { λ r. ⌜ r .0 ≡ tracksOf (down plan) (up plan) ⌝ }
+    ensures { λ r. ⌜ r .0 ≡ opTracks (fromNorth plan) (fromSouth plan) ⌝ }
 {
     let norths = plan.norths;
     let moves = plan.moves;
@@ -169,7 +169,7 @@ pub fn lay(
     plan: Plan,
     wiring: &mut [u8],
 )
-    requires { ⌜ Given (now north) (now south) (n .0) plan ⌝ }
+    requires { ⌜ Layable (now north) (now south) (n .0) plan ⌝ }
     requires { ⌜ (w .0 ≡ widthFor (entry (now north)) (entry (now south)) (n .0)) × (n .0 * w .0 * 2 ≤ length (now wiring)) ⌝ }
     ensures { λ _. ⌜ Laid (upright (n .0) (w .0) 2) (columnPins (now (north .entry)) (now (south .entry))) (now (wiring .entry))
         (now (wiring .exit)) ⌝ }

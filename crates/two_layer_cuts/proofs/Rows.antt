@@ -12,7 +12,7 @@ use lib.Seq.{getD-set-same, getD-set-other}
 use borrow.Author.Tests.{eq-eqb, ne-eqb}
 use Rattle.terms.specs.Limits.{longestSide}
 use Rattle.grid.specs.Legal.{entry}
-use Rattle.two_layer_law.specs.Cuts.{row, after}
+use Rattle.two_layer_law.specs.Cuts.{cutWith, cutAfter}
 use Rattle.two_layer_cuts.specs.Rows.{columnEntries, item, Row}
 
 -- the entries before c are f
@@ -55,7 +55,7 @@ row-put {f} {g} {list} t v l e same r = record {
 
 -- net x is set in column t of a cut
 pub row-set : (x t i : ℕ) (cut : List ℕ) → i ≡ t → length cut ≡ columnEntries → t ≤ longestSide
-    → Row longestSide (row x t (item cut)) (set cut i x)
+    → Row longestSide (cutWith x t (item cut)) (set cut i x)
 row-set x t i cut e size l =
     let r : Row longestSide (item cut) cut = record { size = size; is = λ c h. refl } in
     rw e (row-put t x l (rw (eq-eqb t t refl)) (λ c ne. rw (ne-eqb c t ne)) r)
@@ -69,6 +69,6 @@ turned true v = refl
 turned false v = refl
 
 pub row-after : (x t : ℕ) (cut next : List ℕ) → t ≤ longestSide → Row longestSide (without x (item cut)) next
-    → Row longestSide (after x t (item cut)) (set next t x)
+    → Row longestSide (cutAfter x t (item cut)) (set next t x)
 row-after x t cut next l r = row-put t x l (rw (eq-eqb t t refl))
     (λ c ne. turned (eqb (item cut c) x) (item cut c) ∙ rw (ne-eqb c t ne)) r

@@ -8,7 +8,7 @@ ghost use mathlib.Core.Bool.{cond};
 ghost use Prim.Native.Nat.{_≤_};
 ghost use Rattle.terms.specs.Limits.{longestSide};
 ghost use Rattle.grid.specs.Legal.{entry};
-ghost use Rattle.two_layer_law.specs.Cuts.{after};
+ghost use Rattle.two_layer_law.specs.Cuts.{cutAfter};
 ghost use Rattle.two_layer_cuts.specs.Rows.{item, Row};
 
 // So many operations, counted from 0: the net of each, the column that it is brought to (0 for none), and the ends of its trunk.
@@ -46,7 +46,7 @@ pub fn cut_of(side: &[u8; LONGEST_SIDE]) -> [u8; COLUMN_ENTRIES]
 // The cut once net x is in column t alone. Column t is set after the loop, so that the loop treats all columns alike, many at once.
 pub fn cut_after(cut: &[u8; COLUMN_ENTRIES], x: u8, t: u8) -> [u8; COLUMN_ENTRIES]
     requires { ⌜ t ≤ longestSide ⌝ }
-    ensures { λ r. ⌜ Row longestSide (after x t (item (now (cut .entry)))) r ⌝ }
+    ensures { λ r. ⌜ Row longestSide (cutAfter x t (item (now (cut .entry)))) r ⌝ }
 {
     let mut next = [0u8; COLUMN_ENTRIES];
     let mut c: usize = 0;

@@ -11,19 +11,19 @@ use borrow.Author.Tests.{eqb-true, eq-eqb, leb-true, le-leb, lt-leb}
 use Rattle.counting.specs.Counting.{In, least}
 use Rattle.counting.proofs.Sums.{split, bit-one}
 use Rattle.counting.proofs.Counts.{pigeonhole}
-use Rattle.two_layer_law.specs.Moves.{State, ready, wrong, spare, filling, blocked, moved, movedTo}
+use Rattle.two_layer_law.specs.Moves.{MoveState, ready, wrong, spare, filling, blocked, moved, movedTo}
 use Rattle.counting.proofs.Leasts.{least-in, least-zero}
 use Rattle.counting.proofs.Tests.{count-within}
 use Rattle.two_layer_law.proofs.OneMove.{Movable, Move, ready-facts, facts-ready, wrong-facts}
 
 -- the net and the column of the next move: all stand right; column c is ready; or column c is wrong and none is ready
-pub data Choice (n : ℕ) (goal : ℕ → ℕ) (st : State) : ℕ → ℕ → Type 0 where
+pub data Choice (n : ℕ) (goal : ℕ → ℕ) (st : MoveState) : ℕ → ℕ → Type 0 where
   still : {t : ℕ} → ((c : ℕ) → In c n → wrong goal (st .cut) c ≡ false) → Choice n goal st 0 t
   fill : (c : ℕ) → filling n goal st ≡ c → In c n → goal c ≢ 0 → st .cut c ≡ 0 → Choice n goal st (goal c) c
   evict : (c : ℕ) → In c n → goal c ≢ 0 → st .cut c ≢ goal c → ((d : ℕ) → In d n → goal d ≢ 0 → st .cut d ≢ 0)
       → Choice n goal st (st .cut c) (least (spare goal (st .cut)) n)
 
-module _ (n : ℕ) (goal : ℕ → ℕ) (st : State) (k : Movable n goal st) where
+module _ (n : ℕ) (goal : ℕ → ℕ) (st : MoveState) (k : Movable n goal st) where
   found-ready : (c : ℕ) → c ≢ 0 → filling n goal st ≡ c → In c n × (ready goal (st .cut) c ≡ true)
   found-ready c ne e =
       split (ready goal (st .cut) (st .left))

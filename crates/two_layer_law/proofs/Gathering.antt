@@ -14,7 +14,7 @@ use Rattle.counting.proofs.Counts.{some-of}
 use Rattle.counting.proofs.Leasts.{least-in, least-before}
 use Rattle.terms.specs.Limits.{largestNet}
 use Rattle.two_layer_law.specs.Cuts.{Ops, cutOf, rowOf, Runs}
-use Rattle.two_layer_law.specs.Moves.{firstOn, lastOn, holds, leads, several, Gathered}
+use Rattle.two_layer_law.specs.Moves.{firstOn, lastOn, heldOn, leads, several, Gathered}
 
 -- a net of side a has another pin, on side a or on side b
 pub record Several (n : ℕ) (a b : ℕ → ℕ) : Type 0 where
@@ -47,7 +47,7 @@ module _ (a : ℕ → ℕ) (n : ℕ) where
   pub pin-of : (m : ℕ) → several a n m ≡ true → (c : ℕ) × In c n × (a c ≡ m)
   pin-of m h = counted m (omega (arith, leb-true 2 (count (λ c. eqb (a c) m) n) h))
 
-  pub holds-of : (m c : ℕ) → In c n → a c ≡ m → holds a n m ≡ true
+  pub holds-of : (m c : ℕ) → In c n → a c ≡ m → heldOn a n m ≡ true
   holds-of m c i e = some-of (λ c. eqb (a c) m) n c i (eq-eqb _ _ e)
 
 last-found : (a : ℕ → ℕ) (n m c : ℕ) → In c n → a c ≡ m → c ≤ lastOn a n m
@@ -68,41 +68,41 @@ last-le a (suc n) m = split (eqb (a (suc n)) m) (λ h. rw h (omega arith)) (λ h
 -- ---- the columns that lead a net
 
 module _ (a b : ℕ → ℕ) (n c : ℕ) where
-  pub leads-of : (m : ℕ) → a c ≡ m → firstOn a n m ≡ c → holds b n m ≡ true → leads a b n c ≡ m
+  pub leads-of : (m : ℕ) → a c ≡ m → firstOn a n m ≡ c → heldOn b n m ≡ true → leads a b n c ≡ m
   unfolding leads
   leads-of m e f h = rw (e, eq-eqb (firstOn a n m) c f, h)
 
   pub leads-none : a c ≡ 0 → leads a b n c ≡ 0
   unfolding leads
-  leads-none e = split (eqb (firstOn a n (a c)) c && holds b n (a c)) (λ h. rw h e) (λ h. rw h)
+  leads-none e = split (eqb (firstOn a n (a c)) c && heldOn b n (a c)) (λ h. rw h e) (λ h. rw h)
 
-  pub leads-at : (m : ℕ) → m ≢ 0 → leads a b n c ≡ m → (a c ≡ m) × (firstOn a n m ≡ c) × (holds b n m ≡ true)
+  pub leads-at : (m : ℕ) → m ≢ 0 → leads a b n c ≡ m → (a c ≡ m) × (firstOn a n m ≡ c) × (heldOn b n m ≡ true)
   unfolding leads
   leads-at m nz e =
-      split (eqb (firstOn a n (a c)) c && holds b n (a c))
-      (λ h. let (f, k) = and-eq-true-iff (eqb (firstOn a n (a c)) c) (holds b n (a c)) .0 h in
+      split (eqb (firstOn a n (a c)) c && heldOn b n (a c))
+      (λ h. let (f, k) = and-eq-true-iff (eqb (firstOn a n (a c)) c) (heldOn b n (a c)) .0 h in
       let q : a c ≡ m = rw h at e in
-      (q, ap (firstOn a n) (sym q) ∙ eqb-true _ _ f, ap (holds b n) (sym q) ∙ k))
+      (q, ap (firstOn a n) (sym q) ∙ eqb-true _ _ f, ap (heldOn b n) (sym q) ∙ k))
       (λ h. absurd (nz (sym (rw h at e))))
 
 -- ---- the operations
 
 module _ {n : ℕ} {a b : ℕ → ℕ} {o : Ops} (g : Gathered a b n o) where
-  to-first : (s : ℕ) → s < o .count → holds b n (o .net s) ≡ true → o .to s ≡ firstOn a n (o .net s)
+  to-first : (s : ℕ) → s < o .count → heldOn b n (o .net s) ≡ true → o .to s ≡ firstOn a n (o .net s)
   to-first s h k = g .to s h ∙ rw k
 
-  pub to-none : (s : ℕ) → s < o .count → o .to s ≡ 0 → holds b n (o .net s) ≡ false
+  pub to-none : (s : ℕ) → s < o .count → o .to s ≡ 0 → heldOn b n (o .net s) ≡ false
   to-none s h z =
-      split (holds b n (o .net s))
+      split (heldOn b n (o .net s))
       (λ k. let (c, i, e) = pin-of a n (o .net s) (g .each s h .1) in
       absurd (omega (arith, to-first s h k, first-found a n (o .net s) c i e .0)))
       (λ k. k)
 
   -- the column that a net is brought to is its first
   own-column : (s c : ℕ) → s < o .count → In c n → c ≡ o .to s
-      → (firstOn a n (o .net s) ≡ c) × (a c ≡ o .net s) × (holds b n (o .net s) ≡ true)
+      → (firstOn a n (o .net s) ≡ c) × (a c ≡ o .net s) × (heldOn b n (o .net s) ≡ true)
   own-column s c h i q =
-      split (holds b n (o .net s))
+      split (heldOn b n (o .net s))
       (λ k. let f = sym (to-first s h k) ∙ sym q in
       let (d, j, e) = pin-of a n (o .net s) (g .each s h .1) in
       (f, ap a (sym f) ∙ first-found a n (o .net s) d j e .1, k))
@@ -150,7 +150,7 @@ module _ {n : ℕ} {a b : ℕ → ℕ} {o : Ops} (g : Gathered a b n o) where
       (λ q. rw (q, eq-eqb (cutOf o a s c) (o .net s) (k ∙ sym e)) (sym (by-cases (ℕ-discrete (leads a b n c) 0) (λ z. z) (λ nz.
       let (u, f, v) = leads-at a b n c (leads a b n c) nz refl in
       let x : leads a b n c ≡ o .net s = sym u ∙ sym e in
-      absurd (eqb-false _ _ q (sym f ∙ ap (firstOn a n) x ∙ sym (to-first s h (ap (holds b n) (sym x) ∙ v))))))))
+      absurd (eqb-false _ _ q (sym f ∙ ap (firstOn a n) x ∙ sym (to-first s h (ap (heldOn b n) (sym x) ∙ v))))))))
 
   settled : (s c r : ℕ) → s ≤ o .count → In c n → r < s → o .net r ≡ a c → cutOf o a s c ≡ leads a b n c
   settled zero c r h i lt e = absurd (omega arith)
@@ -172,7 +172,7 @@ module _ {n : ℕ} {a b : ℕ → ℕ} {o : Ops} (g : Gathered a b n o) where
 
   to-inside : (s : ℕ) → s < o .count → o .to s ≤ n
   to-inside s h =
-      split (holds b n (o .net s))
+      split (heldOn b n (o .net s))
       (λ k. let (c, i, e) = pin-of a n (o .net s) (g .each s h .1) in
       omega (arith, to-first s h k, first-found a n (o .net s) c i e .0))
       (λ k. let z : o .to s ≡ 0 = g .to s h ∙ rw k in omega arith)
@@ -213,7 +213,7 @@ module _ {n : ℕ} {a b : ℕ → ℕ} {o : Ops} (g : Gathered a b n o) where
           let (j, e, le) = first-found a n (a c) c i refl in
           by-cases (ℕ-discrete (firstOn a n (a c)) c) (λ q. q) (λ ne. absurd (false≢true (sym h ∙ twice a n (a c) _ c j i e refl ne)))
 
-      opposite : several a n (a c) ≡ false → a c ≢ 0 → holds b n (a c) ≡ true
+      opposite : several a n (a c) ≡ false → a c ≢ 0 → heldOn b n (a c) ≡ true
       opposite h nz = ⊎-elim
           (λ (d, j, ne, e). absurd (false≢true (sym h ∙ twice a n (a c) d c j i e refl ne)))
           (λ (d, j, e). holds-of b n (a c) d j e)

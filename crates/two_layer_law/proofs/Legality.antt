@@ -13,7 +13,7 @@ use Rattle.terms.specs.Kinds.{Side, north, south, west, east}
 use Rattle.grid.specs.Grid.{upright, pin}
 use Rattle.grid.specs.Legal.{Pins, Wiring, Held, Legal}
 use Rattle.grid.proofs.Pins.{Bare}
-use Rattle.two_layer_law.specs.Cuts.{Ops, cutOf, rowOf, trunkOf, Runs, Consistent, tracksOf, Drawn}
+use Rattle.two_layer_law.specs.Cuts.{Ops, cutOf, rowOf, trunkOf, Runs, Consistent, opTracks, OpsDrawn}
 use Rattle.two_layer_law.proofs.Tracks.{Crossing, Track, Tracked, tracked-legal}
 
 -- one column of an operation of net y: whether it is the column that y is brought to, and whether the cut has y there
@@ -73,7 +73,7 @@ turned t = record {
 }
 
 -- without an operation the one track holds the pins
-idle-tracked : {n : ℕ} {p : Pins} {down up : Ops} {x : Wiring} → down .count + up .count ≡ 0 → Consistent n p down up → Drawn n p down up x
+idle-tracked : {n : ℕ} {p : Pins} {down up : Ops} {x : Wiring} → down .count + up .count ≡ 0 → Consistent n p down up → OpsDrawn n p down up x
     → Tracked n 1 p x
 unfolding cutOf
 idle-tracked {n} {p} {down} {up} {x} none q d = record {
@@ -106,42 +106,42 @@ idle-tracked {n} {p} {down} {up} {x} none q d = record {
     rows (suc r) h = absurd (omega arith)
 
 module _ {n : ℕ} {p : Pins} {down up : Ops} {x : Wiring} (some : 1 ≤ down .count + up .count) (q : Consistent n p down up)
-    (d : Drawn n p down up x) where
+    (d : OpsDrawn n p down up x) where
   -- the cut over r tracks: the one after r operations from the south, or the one that operations from the north lead to
   cut : ℕ → ℕ → ℕ
-  cut r c = cond (leb r (up .count)) (cutOf up (p south) r c) (cutOf down (p north) (tracksOf down up - r) c)
+  cut r c = cond (leb r (up .count)) (cutOf up (p south) r c) (cutOf down (p north) (opTracks down up - r) c)
 
   low-cut : (r c : ℕ) → r ≤ up .count → cut r c ≡ cutOf up (p south) r c
   unfolding cut
   low-cut r c h = rw (le-leb r (up .count) h)
 
-  high-cut : (r s c : ℕ) → r + s ≡ tracksOf down up → up .count ≤ r → In c n → cut r c ≡ cutOf down (p north) s c
+  high-cut : (r s c : ℕ) → r + s ≡ opTracks down up → up .count ≤ r → In c n → cut r c ≡ cutOf down (p north) s c
   unfolding cut
   high-cut r s c e h i = elim (decLe r (up .count)) [
     | yes k ↦ low-cut r c k ∙ ap (λ t. cutOf up (p south) t c) {x = r} {y = up .count} (omega arith) ∙ sym (q .meet c i)
         ∙ ap (λ t. cutOf down (p north) t c) {x = down .count} {y = s} (omega arith)
-    | no k ↦ rw (lt-leb r (up .count) (omega arith)) (ap (λ t. cutOf down (p north) t c) {x = tracksOf down up - r} {y = s} (omega arith))
+    | no k ↦ rw (lt-leb r (up .count) (omega arith)) (ap (λ t. cutOf down (p north) t c) {x = opTracks down up - r} {y = s} (omega arith))
   ]
 
   -- what the track over cut r has: of its operation from the south, or of that from the north
   pick : (ℕ → ℕ) → (ℕ → ℕ) → ℕ → ℕ
-  pick f g r = cond (ltb r (up .count)) (f r) (g (tracksOf down up - suc r))
+  pick f g r = cond (ltb r (up .count)) (f r) (g (opTracks down up - suc r))
 
   low-pick : (f g : ℕ → ℕ) (r : ℕ) → r < up .count → pick f g r ≡ f r
   unfolding pick
   low-pick f g r h = rw (lt-ltb r (up .count) h)
 
-  high-pick : (f g : ℕ → ℕ) (r s : ℕ) → suc (r + s) ≡ tracksOf down up → up .count ≤ r → pick f g r ≡ g s
+  high-pick : (f g : ℕ → ℕ) (r s : ℕ) → suc (r + s) ≡ opTracks down up → up .count ≤ r → pick f g r ≡ g s
   unfolding pick
-  high-pick f g r s e h = rw (le-ltb r (up .count) h) (ap g {x = tracksOf down up - suc r} {y = s} (omega arith))
+  high-pick f g r s e h = rw (le-ltb r (up .count) h) (ap g {x = opTracks down up - suc r} {y = s} (omega arith))
 
   -- track r + 1 is operation r from the south, or operation s from the north
   data At (r : ℕ) : Type 0 where
     lower : r < up .count → At r
-    upper : (s : ℕ) → suc (r + s) ≡ tracksOf down up → up .count ≤ r → At r
+    upper : (s : ℕ) → suc (r + s) ≡ opTracks down up → up .count ≤ r → At r
 
-  at : (r : ℕ) → r < tracksOf down up → At r
-  at r h = elim (decLe (up .count) r) [ yes k ↦ upper (tracksOf down up - suc r) (omega arith) k | no k ↦ lower (omega arith) ]
+  at : (r : ℕ) → r < opTracks down up → At r
+  at r h = elim (decLe (up .count) r) [ yes k ↦ upper (opTracks down up - suc r) (omega arith) k | no k ↦ lower (omega arith) ]
 
   net : ℕ → ℕ
   net = pick (up .net) (down .net)
@@ -150,7 +150,7 @@ module _ {n : ℕ} {p : Pins} {down up : Ops} {x : Wiring} (some : 1 ≤ down .c
   unfolding net
   low-net = low-pick (up .net) (down .net)
 
-  high-net : (r s : ℕ) → suc (r + s) ≡ tracksOf down up → up .count ≤ r → net r ≡ down .net s
+  high-net : (r s : ℕ) → suc (r + s) ≡ opTracks down up → up .count ≤ r → net r ≡ down .net s
   unfolding net
   high-net = high-pick (up .net) (down .net)
 
@@ -160,7 +160,7 @@ module _ {n : ℕ} {p : Pins} {down up : Ops} {x : Wiring} (some : 1 ≤ down .c
       (laid (q .souths) r (suc r) (cut r) (cut (suc r)) h (λ c i. low-cut r c (omega arith)) (λ c i. low-cut (suc r) c h)
       (λ c. d .lower r c h) (λ c. d .lower-trunk r c h))
   rows r (upper s e h) =
-      let track : tracksOf down up - s ≡ suc r = omega arith in
+      let track : opTracks down up - s ≡ suc r = omega arith in
       let k : s < down .count = omega arith in
       rw (high-net r s e h, high-pick (up .low) (down .low) r s e h, high-pick (up .high) (down .high) r s e h)
       (turned (laid (q .norths) s (suc r) (cut (suc r)) (cut r) k (λ c. high-cut (suc r) s c (omega arith) (omega arith))
@@ -168,7 +168,7 @@ module _ {n : ℕ} {p : Pins} {down up : Ops} {x : Wiring} (some : 1 ≤ down .c
       (λ c i. ap (λ t. x c t 1) (sym track) ∙ d .upper s c k i) (λ c i. ap (λ t. x c t 2) (sym track) ∙ d .upper-trunk s c k i)))
 
   -- an operation from the north that ends its net is its only one
-  once : (r s t : ℕ) → suc (r + s) ≡ tracksOf down up → up .count ≤ r → At t → t < r → net t ≡ net r → 1 ≤ down .to s
+  once : (r s t : ℕ) → suc (r + s) ≡ opTracks down up → up .count ≤ r → At t → t < r → net t ≡ net r → 1 ≤ down .to s
   once r s t e h (lower k) lt same = elim (decLe 1 (down .to s)) [
     | yes a ↦ a
     | no a ↦ absurd (q .ended s (omega arith) (omega arith) .1 t k
@@ -191,7 +191,7 @@ module _ {n : ℕ} {p : Pins} {down up : Ops} {x : Wiring} (some : 1 ≤ down .c
       let i : In (down .to s) n = omega (arith, once r s t e h k lt same, q .norths .column s (omega arith)) in
       (down .to s, i, high-cut r (suc s) (down .to s) (omega arith) h i ∙ brought (q .norths) s ∙ sym (high-net r s e h))
 
-  pinned : (r : ℕ) → At r → (s : Side) × (a : ℕ) × Held (upright n (tracksOf down up) 2) p x (net r) (pin s a)
+  pinned : (r : ℕ) → At r → (s : Side) × (a : ℕ) × Held (upright n (opTracks down up) 2) p x (net r) (pin s a)
   pinned r (lower h) =
       let (a, i, e) = own-pin (q .souths) r h in
       (south, a, record { inside = i; net = e ∙ sym (low-net r h) })
@@ -199,7 +199,7 @@ module _ {n : ℕ} {p : Pins} {down up : Ops} {x : Wiring} (some : 1 ≤ down .c
       let (a, i, t) = own-pin (q .norths) s (omega arith) in
       (north, a, record { inside = i; net = t ∙ sym (high-net r s e h) })
 
-  consistent-tracked : Tracked n (tracksOf down up) p x
+  consistent-tracked : Tracked n (opTracks down up) p x
   unfolding cutOf
   consistent-tracked = record {
     cut = cut;
@@ -208,18 +208,18 @@ module _ {n : ℕ} {p : Pins} {down up : Ops} {x : Wiring} (some : 1 ≤ down .c
     high = pick (up .high) (down .high);
     wide = omega arith;
     first = λ c i. low-cut 0 c (omega arith);
-    last = λ c. high-cut (tracksOf down up) 0 c (omega arith) (omega arith);
+    last = λ c. high-cut (opTracks down up) 0 c (omega arith) (omega arith);
     rows = λ r h. rows r (at r h);
     again = λ s r h k nz. again s r h (at s (omega arith)) (at r k);
     pinned = λ r h nz. pinned r (at r h);
     straight = λ m a b nz no. q .straight m a b nz
-        (λ s h e. no (tracksOf down up - suc s) (omega arith) (high-net (tracksOf down up - suc s) s (omega arith) (omega arith) ∙ e))
+        (λ s h e. no (opTracks down up - suc s) (omega arith) (high-net (opTracks down up - suc s) s (omega arith) (omega arith) ∙ e))
         (λ s h e. no s (omega arith) (low-net s h ∙ e));
   }
 
-pub consistent-legal : {n : ℕ} {p : Pins} {down up : Ops} {x : Wiring} → Bare p west → Bare p east → Consistent n p down up → Drawn n p down up x
-    → Legal (upright n (tracksOf down up) 2) p x
+pub consistent-legal : {n : ℕ} {p : Pins} {down up : Ops} {x : Wiring} → Bare p west → Bare p east → Consistent n p down up → OpsDrawn n p down up x
+    → Legal (upright n (opTracks down up) 2) p x
 consistent-legal {n} {p} {down} {up} {x} bw be q d = elim (decLe 1 (down .count + up .count)) [
   | yes h ↦ tracked-legal bw be (consistent-tracked h q d)
-  | no h ↦ let one : tracksOf down up ≡ 1 = omega arith in rw one (tracked-legal bw be (idle-tracked (omega arith) q d))
+  | no h ↦ let one : opTracks down up ≡ 1 = omega arith in rw one (tracked-legal bw be (idle-tracked (omega arith) q d))
 ]

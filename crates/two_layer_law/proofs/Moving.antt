@@ -10,18 +10,18 @@ use borrow.Author.Tests.{ne-eqb, le-leb, lt-leb}
 use Rattle.counting.specs.Counting.{In, bit, count}
 use Rattle.counting.proofs.Sums.{split, bit-one, sum-part}
 use Rattle.two_layer_law.specs.Cuts.{cutOf, rowOf, Runs}
-use Rattle.two_layer_law.specs.Moves.{State, wrong, moved, movedTo, next, stateAt, steps, movesOf}
+use Rattle.two_layer_law.specs.Moves.{MoveState, wrong, moved, movedTo, next, stateAt, steps, movesOf}
 use Rattle.two_layer_law.proofs.OneMove.{Movable, Move}
 use Rattle.two_layer_law.proofs.Choices.{place}
 use Rattle.two_layer_law.proofs.Turns.{Owed, none, one, two, all-right, owes-nothing, Turn, rest, go, next-turn}
 
 -- ---- a state and its next move
 
-record Sound (n : ℕ) (goal : ℕ → ℕ) (st : State) : Type 0 where
+record Sound (n : ℕ) (goal : ℕ → ℕ) (st : MoveState) : Type 0 where
   movable : Movable n goal st
   move : Move n goal st (moved n goal st) (movedTo n goal st)
 
-module _ (n : ℕ) (goal : ℕ → ℕ) (st : State) where
+module _ (n : ℕ) (goal : ℕ → ℕ) (st : MoveState) where
   -- the states after the first move
   state-next : (s : ℕ) → stateAt n goal (next n goal st) s ≡ stateAt n goal st (suc s)
   unfolding stateAt
@@ -46,17 +46,17 @@ module _ (n : ℕ) (goal : ℕ → ℕ) (st : State) where
 
 -- ---- all moves
 
-record Course (n : ℕ) (goal : ℕ → ℕ) (st : State) (many m : ℕ) : Type 0 where
+record Course (n : ℕ) (goal : ℕ → ℕ) (st : MoveState) (many m : ℕ) : Type 0 where
   each : (s : ℕ) → s < many → Sound n goal (stateAt n goal st s)
   end : (c : ℕ) → In c n → stateAt n goal st many .cut c ≡ goal c
   few : 2 * many + m ≤ 3 * count (wrong goal (st .cut)) n
 
-module _ (n : ℕ) (goal : ℕ → ℕ) (st : State) where
+module _ (n : ℕ) (goal : ℕ → ℕ) (st : MoveState) where
   -- all stand right
   over : (many m : ℕ) → many ≡ 0 → m ≡ 0 → ((c : ℕ) → In c n → st .cut c ≡ goal c) → Course n goal st many m
   over many m e z right = record {
     each = λ s h. absurd (omega arith);
-    end = λ c i. ap (λ (u : ℕ). stateAt n goal st u .cut c) e ∙ ap (λ (u : State). u .cut c) (state-first n goal st) ∙ right c i;
+    end = λ c i. ap (λ (u : ℕ). stateAt n goal st u .cut c) e ∙ ap (λ (u : MoveState). u .cut c) (state-first n goal st) ∙ right c i;
     few = omega arith;
   }
 
@@ -65,7 +65,7 @@ module _ (n : ℕ) (goal : ℕ → ℕ) (st : State) where
       → 3 * count (wrong goal (next n goal st .cut)) n + 2 + m ≤ 3 * count (wrong goal (st .cut)) n + m′ → Course n goal st (suc many) m
   onward many m m′ first later near = record {
     each = all;
-    end = λ c i. ap (λ (u : State). u .cut c) (sym (state-next n goal st many)) ∙ later .end c i;
+    end = λ c i. ap (λ (u : MoveState). u .cut c) (sym (state-next n goal st many)) ∙ later .end c i;
     few = omega (arith, later .few);
   }
     where
@@ -98,7 +98,7 @@ module _ (n : ℕ) (goal : ℕ → ℕ) (st : State) where
       rw (steps-go n goal st most (move .named))
       (onward (steps n goal (next n goal st) most) m m′ (record { movable = k; move = move }) (later m′ k′ o′ (omega arith)) near)
 
-course : (n : ℕ) (goal : ℕ → ℕ) (most : ℕ) (st : State) (m : ℕ) → Movable n goal st → Owed n goal st m
+course : (n : ℕ) (goal : ℕ → ℕ) (most : ℕ) (st : MoveState) (m : ℕ) → Movable n goal st → Owed n goal st m
     → 3 * count (wrong goal (st .cut)) n ≤ 2 * most + m → Course n goal st (steps n goal st most) m
 course n goal zero st m k o h = at-once n goal st m k o (omega arith)
 course n goal (suc most) st m k o h =
@@ -107,7 +107,7 @@ course n goal (suc most) st m k o h =
 -- ---- the moves as operations
 
 -- `many` moves from the state: they run, every net goes to a column and is a net of both sides, and all stand right at the end
-pub record Brought (n : ℕ) (goal : ℕ → ℕ) (st : State) (many : ℕ) : Type 0 where
+pub record Brought (n : ℕ) (goal : ℕ → ℕ) (st : MoveState) (many : ℕ) : Type 0 where
   pub runs : Runs n (st .cut) (movesOf n goal st many)
   pub somewhere : (s : ℕ) → s < many → 1 ≤ movedTo n goal (stateAt n goal st s)
   pub two-sided : (s : ℕ) → s < many → (c : ℕ) × In c n × (goal c ≡ moved n goal (stateAt n goal st s))
@@ -115,12 +115,12 @@ pub record Brought (n : ℕ) (goal : ℕ → ℕ) (st : State) (many : ℕ) : Ty
   pub few : 2 * many ≤ 3 * count (wrong goal (st .cut)) n
 
 -- the cut after s operations is the state's
-cut-state : (n : ℕ) (goal : ℕ → ℕ) (st : State) (many s c : ℕ) → cutOf (movesOf n goal st many) (st .cut) s c ≡ stateAt n goal st s .cut c
+cut-state : (n : ℕ) (goal : ℕ → ℕ) (st : MoveState) (many s c : ℕ) → cutOf (movesOf n goal st many) (st .cut) s c ≡ stateAt n goal st s .cut c
 unfolding cutOf stateAt next
 cut-state n goal st many zero c = refl
 cut-state n goal st many (suc s) c = rw (cut-state n goal st many s c)
 
-module _ (n : ℕ) (goal : ℕ → ℕ) (st : State) (many : ℕ) (k : Course n goal st many 0) where
+module _ (n : ℕ) (goal : ℕ → ℕ) (st : MoveState) (many : ℕ) (k : Course n goal st many 0) where
   brought : Brought n goal st many
   brought = record {
     runs = record {
@@ -144,6 +144,6 @@ module _ (n : ℕ) (goal : ℕ → ℕ) (st : State) (many : ℕ) (k : Course n 
           (λ ne. let f = sym (cut-state n goal st many s c) ∙ (rw (ne-eqb c (movesOf n goal st many .to s) ne) at e) in
           let q = place n goal _ (d .movable) c _ i (d .move .named) f in omega arith)
 
-pub moving : (n : ℕ) (goal : ℕ → ℕ) (st : State) (most : ℕ) → Movable n goal st → 3 * count (wrong goal (st .cut)) n ≤ 2 * most
+pub moving : (n : ℕ) (goal : ℕ → ℕ) (st : MoveState) (most : ℕ) → Movable n goal st → 3 * count (wrong goal (st .cut)) n ≤ 2 * most
     → Brought n goal st (steps n goal st most)
 moving n goal st most k h = brought n goal st (steps n goal st most) (course n goal most st 0 k none (omega arith))

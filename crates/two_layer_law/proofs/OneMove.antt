@@ -10,12 +10,12 @@ use lib.Dec.{eqb, leb}
 use borrow.Author.Tests.{eqb-true, eqb-false, eq-eqb, ne-eqb, leb-true, le-leb, not-true}
 use Rattle.counting.specs.Counting.{In, bit, count}
 use Rattle.counting.proofs.Sums.{split}
-use Rattle.two_layer_law.specs.Cuts.{after}
-use Rattle.two_layer_law.specs.Moves.{State, wrong}
+use Rattle.two_layer_law.specs.Cuts.{cutAfter}
+use Rattle.two_layer_law.specs.Moves.{MoveState, wrong}
 use Rattle.counting.proofs.Tests.{count-within}
 
 -- the nets of the cut are those of the goal, each in one column of either; `at` finds them; and a column stays empty, or all stand right
-pub record Movable (n : ℕ) (goal : ℕ → ℕ) (st : State) : Type 0 where
+pub record Movable (n : ℕ) (goal : ℕ → ℕ) (st : MoveState) : Type 0 where
   pub single : (c d : ℕ) → In c n → In d n → st .cut c ≢ 0 → st .cut c ≡ st .cut d → c ≡ d
   pub goal-single : (c d : ℕ) → In c n → In d n → goal c ≢ 0 → goal c ≡ goal d → c ≡ d
   pub wanted : (c : ℕ) → In c n → st .cut c ≢ 0 → (d : ℕ) × In d n × (goal d ≡ st .cut c)
@@ -26,7 +26,7 @@ pub record Movable (n : ℕ) (goal : ℕ → ℕ) (st : State) : Type 0 where
   pub vacant : ((c : ℕ) × In c n × (goal c ≡ 0)) ⊎ ((c : ℕ) → In c n → st .cut c ≡ goal c)
 
 -- net x, which does not stand right, may be moved to column t, which is empty and stays so or is to get x
-pub record Move (n : ℕ) (goal : ℕ → ℕ) (st : State) (x t : ℕ) : Type 0 where
+pub record Move (n : ℕ) (goal : ℕ → ℕ) (st : MoveState) (x t : ℕ) : Type 0 where
   pub named : x ≢ 0
   pub to : In t n
   pub free : st .cut t ≡ 0
@@ -37,8 +37,8 @@ pub record Move (n : ℕ) (goal : ℕ → ℕ) (st : State) (x t : ℕ) : Type 0
   pub apart : (c : ℕ) → In c n → st .cut c ≡ x → goal c ≢ x
   pub fits : (goal t ≡ x) ⊎ (goal t ≡ 0)
 
-abbrev pub shifted : ℕ → ℕ → State → State
-shifted x t st = record { cut = after x t (st .cut); at = λ m. cond (eqb m x) t (st .at m); left = st .at x }
+abbrev pub shifted : ℕ → ℕ → MoveState → MoveState
+shifted x t st = record { cut = cutAfter x t (st .cut); at = λ m. cond (eqb m x) t (st .at m); left = st .at x }
 
 -- ---- the tests on a column, as facts
 
@@ -60,9 +60,9 @@ facts-wrong g k ne d = and-eq-true-iff (leb 1 g) (not (eqb k g)) .1 (le-leb 1 g 
 -- ---- a column past the move
 
 pub data Past (x t : ℕ) (cut : ℕ → ℕ) (c : ℕ) : Type 0 where
-  reached : c ≡ t → after x t cut c ≡ x → Past x t cut c
-  emptied : c ≢ t → cut c ≡ x → after x t cut c ≡ 0 → Past x t cut c
-  same : c ≢ t → cut c ≢ x → after x t cut c ≡ cut c → Past x t cut c
+  reached : c ≡ t → cutAfter x t cut c ≡ x → Past x t cut c
+  emptied : c ≢ t → cut c ≡ x → cutAfter x t cut c ≡ 0 → Past x t cut c
+  same : c ≢ t → cut c ≢ x → cutAfter x t cut c ≡ cut c → Past x t cut c
 
 pub past : (x t : ℕ) (cut : ℕ → ℕ) (c : ℕ) → Past x t cut c
 past x t cut c =
@@ -72,7 +72,7 @@ past x t cut c =
     (λ q. emptied ne q (rw (ne-eqb c t ne, eq-eqb (cut c) x q)))
     (λ nx. same ne nx (rw (ne-eqb c t ne, ne-eqb (cut c) x nx))))
 
-module _ (n : ℕ) (goal : ℕ → ℕ) (st : State) (x t : ℕ) (k : Movable n goal st) (m : Move n goal st x t) where
+module _ (n : ℕ) (goal : ℕ → ℕ) (st : MoveState) (x t : ℕ) (k : Movable n goal st) (m : Move n goal st x t) where
   pub kept : Movable n goal (shifted x t st)
   kept = record {
     single = λ c d i j. alone c d i j (past x t (st .cut) c) (past x t (st .cut) d);
@@ -86,7 +86,7 @@ module _ (n : ℕ) (goal : ℕ → ℕ) (st : State) (x t : ℕ) (k : Movable n 
   }
     where
       cut′ : ℕ → ℕ
-      cut′ = after x t (st .cut)
+      cut′ = cutAfter x t (st .cut)
 
       alone : (c d : ℕ) → In c n → In d n → Past x t (st .cut) c → Past x t (st .cut) d → cut′ c ≢ 0 → cut′ c ≡ cut′ d → c ≡ d
       alone c d i j (reached q e) (reached r f) ne s = omega arith
@@ -118,18 +118,18 @@ module _ (n : ℕ) (goal : ℕ → ℕ) (st : State) (x t : ℕ) (k : Movable n 
       found c i (same q w e) ne = rw (ne-eqb (cut′ c) x (λ z. w (sym e ∙ z))) (ap (st .at) e ∙ k .at c i (λ z. ne (e ∙ z)))
 
   -- column t was wrong, if at all, and is not any more
-  pub fewer : count (wrong goal (after x t (st .cut))) n + bit (wrong goal (st .cut) t) ≤ count (wrong goal (st .cut)) n
-  fewer = count-within (wrong goal (after x t (st .cut))) (wrong goal (st .cut)) t n (m .to) right
+  pub fewer : count (wrong goal (cutAfter x t (st .cut))) n + bit (wrong goal (st .cut) t) ≤ count (wrong goal (st .cut)) n
+  fewer = count-within (wrong goal (cutAfter x t (st .cut))) (wrong goal (st .cut)) t n (m .to) right
       (λ c i h. let (g, w) = wrong-facts (goal c) _ h in facts-wrong (goal c) (st .cut c) g (before c i g w (past x t (st .cut) c)))
     where
-      right : wrong goal (after x t (st .cut)) t ≡ false
-      right = split (wrong goal (after x t (st .cut)) t) (λ h. absurd (never (wrong-facts (goal t) _ h) (m .fits))) (λ h. h)
+      right : wrong goal (cutAfter x t (st .cut)) t ≡ false
+      right = split (wrong goal (cutAfter x t (st .cut)) t) (λ h. absurd (never (wrong-facts (goal t) _ h) (m .fits))) (λ h. h)
         where
-          never : (goal t ≢ 0) × (after x t (st .cut) t ≢ goal t) → (goal t ≡ x) ⊎ (goal t ≡ 0) → ⊥
+          never : (goal t ≢ 0) × (cutAfter x t (st .cut) t ≢ goal t) → (goal t ≡ x) ⊎ (goal t ≡ 0) → ⊥
           never (g, w) (inl q) = w (rw (eq-eqb t t refl) (sym q))
           never (g, w) (inr z) = g z
 
-      before : (c : ℕ) → In c n → goal c ≢ 0 → after x t (st .cut) c ≢ goal c → Past x t (st .cut) c → st .cut c ≢ goal c
+      before : (c : ℕ) → In c n → goal c ≢ 0 → cutAfter x t (st .cut) c ≢ goal c → Past x t (st .cut) c → st .cut c ≢ goal c
       before c i g w (reached q e) z = g (sym z ∙ ap (st .cut) q ∙ m .free)
       before c i g w (emptied q v e) z = m .apart c i v (sym z ∙ v)
       before c i g w (same q v e) z = w (e ∙ z)

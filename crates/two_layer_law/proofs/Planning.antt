@@ -15,15 +15,15 @@ use Rattle.counting.proofs.Counts.{some-in, some-of, count-le, pigeonhole}
 use Rattle.terms.specs.Limits.{longestSide, largestNet}
 use Rattle.terms.specs.Kinds.{north, south}
 use Rattle.grid.specs.Legal.{Pins}
-use Rattle.two_layer_law.specs.Cuts.{Ops, Same, followed, row, cutOf, Runs, Ended, Consistent, tracksOf}
+use Rattle.two_layer_law.specs.Cuts.{Ops, Same, followed, cutWith, cutOf, Runs, EndsOnce, Consistent, opTracks}
 use Rattle.two_layer_law.specs.Moves.{
   firstOn,
-  holds,
+  heldOn,
   leads,
   solidTest,
   several,
   Gathered,
-  State,
+  MoveState,
   wrong,
   steps,
   startOf,
@@ -60,7 +60,7 @@ record Fits (n : ℕ) (cut : ℕ → ℕ) (x t l h : ℕ) : Type 0 where
   free : 1 ≤ t → (cut t ≡ 0) ⊎ (cut t ≡ x)
   there : (c : ℕ) × In c n × (cut c ≡ x)
   ends : (1 ≤ l) × (h ≤ n)
-  reaches : (c : ℕ) → In c n → row x t cut c ≡ x → (l ≤ c) × (c ≤ h)
+  reaches : (c : ℕ) → In c n → cutWith x t cut c ≡ x → (l ≤ c) × (c ≤ h)
 
 fits : {n : ℕ} {start : ℕ → ℕ} {o : Ops} → Runs n start o → (s : ℕ) → s < o .count
     → Fits n (cutOf o start s) (o .net s) (o .to s) (o .low s) (o .high s)
@@ -218,7 +218,7 @@ pins a n m = count (λ c. eqb (a c) m) n
 abbrev on-both : (ℕ → ℕ) → (ℕ → ℕ) → ℕ → ℕ → Bool
 on-both a b n m = leb 1 (pins a n m) && leb 1 (pins b n m)
 
-held-count : (a : ℕ → ℕ) (n m : ℕ) → holds a n m ≡ true → leb 1 (pins a n m) ≡ true
+held-count : (a : ℕ → ℕ) (n m : ℕ) → heldOn a n m ≡ true → leb 1 (pins a n m) ≡ true
 held-count a n m h =
     let (c, i, e) = some-in (λ c. eqb (a c) m) n h in
     le-leb 1 (pins a n m) (omega (arith, bit-one e, sum-part (λ c. bit (eqb (a c) m)) c n i))
@@ -264,7 +264,7 @@ charged a b n m =
     (leb-true 1 (pins a n m) f, leb-true 1 (pins b n m) g))
 
 pub width-is : {n : ℕ} (a b : ℕ → ℕ) {gn om gs : Ops} → Gathered a b n gn
-    → Same om (movesOf n (leads b a n) (startOf a b n) (moves a b n)) → Gathered b a n gs → tracksOf (followed gn om) gs ≡ widthFor a b n
+    → Same om (movesOf n (leads b a n) (startOf a b n) (moves a b n)) → Gathered b a n gs → opTracks (followed gn om) gs ≡ widthFor a b n
 unfolding widthFor
 width-is a b kn km ks = rw (kn .count, km .many, ks .count)
 
@@ -322,7 +322,7 @@ module _ {n : ℕ} {p : Pins} (ch : Channel n p) (open-test : solidTest (p north
           at-then (gn .to) (om .to) (gn .count) s le,
         )
 
-    ended : Ended down gs
+    ended : EndsOnce down gs
     ended s h z = elim (decLe (suc s) (gn .count)) [
       | yes lt ↦ let lacks = to-none kn s lt (sym (at-first (gn .to) (om .to) (gn .count) s lt) ∙ z) in (
         λ r k e. elim (decLe (suc r) (gn .count)) [
@@ -334,7 +334,7 @@ module _ {n : ℕ} {p : Pins} (ch : Channel n p) (open-test : solidTest (p north
       | no ge ↦ absurd (omega (arith, later-to s h (omega arith)))
     ]
       where
-        apart : (s : ℕ) → s < gn .count → holds (p south) n (gn .net s) ≡ false → (c : ℕ) → In c n → p south c ≢ down .net s
+        apart : (s : ℕ) → s < gn .count → heldOn (p south) n (gn .net s) ≡ false → (c : ℕ) → In c n → p south c ≢ down .net s
         apart s lt lacks c i e = false≢true (sym lacks ∙ holds-of (p south) n (gn .net s) c i (e ∙ first-net s lt))
 
     pub planned : Several n (p north) (p south) → Several n (p south) (p north) → Consistent n p (followed gn om) gs

@@ -17,7 +17,7 @@ use Rattle.grid.specs.Legal.{Pins}
 use Rattle.grid.proofs.Pins.{Bare}
 use Rattle.problem.specs.Problem.{pinCountOn, pinCount}
 use Rattle.two_layer_law.specs.Solid.{filled, paired, crooked, solid}
-use Rattle.two_layer_law.specs.Moves.{firstOn, holds, leads, solidTest}
+use Rattle.two_layer_law.specs.Moves.{firstOn, heldOn, leads, solidTest}
 use Rattle.two_layer_law.proofs.Channels.{Channel}
 use Rattle.counting.proofs.Leasts.{least-first}
 use Rattle.counting.proofs.Tests.{every-both, every-of, count-once}
@@ -168,11 +168,11 @@ module _ (n : ℕ) (a b : ℕ → ℕ) where
       rw (eq-eqb (firstOn a n (a c)) c first, some-of (λ d. eqb (b d) (a c)) n d j (eq-eqb _ _ e))
 
   -- what it says that column c leads a net
-  leading : (c : ℕ) → leb 1 (leads a b n c) ≡ true → (1 ≤ a c) × (firstOn a n (a c) ≡ c) × (holds b n (a c) ≡ true) × (leads a b n c ≡ a c)
+  leading : (c : ℕ) → leb 1 (leads a b n c) ≡ true → (1 ≤ a c) × (firstOn a n (a c) ≡ c) × (heldOn b n (a c) ≡ true) × (leads a b n c ≡ a c)
   unfolding leads
   leading c e =
-      split (eqb (firstOn a n (a c)) c && holds b n (a c))
-      (λ h. let (f, k) = and-eq-true-iff (eqb (firstOn a n (a c)) c) (holds b n (a c)) .0 h in
+      split (eqb (firstOn a n (a c)) c && heldOn b n (a c))
+      (λ h. let (f, k) = and-eq-true-iff (eqb (firstOn a n (a c)) c) (heldOn b n (a c)) .0 h in
       (leb-true 1 (a c) (rw h at e), eqb-true _ _ f, k, rw h))
       (λ h. absurd (false≢true (rw h at e)))
 

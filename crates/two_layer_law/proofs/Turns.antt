@@ -9,8 +9,8 @@ use native.Mathlib.Decide.{ℕ-discrete}
 use borrow.Author.Tests.{eq-eqb}
 use Rattle.counting.specs.Counting.{In, count, least}
 use Rattle.counting.proofs.Sums.{bit-one}
-use Rattle.two_layer_law.specs.Cuts.{after}
-use Rattle.two_layer_law.specs.Moves.{State, ready, wrong, spare, filling, moved, movedTo, next}
+use Rattle.two_layer_law.specs.Cuts.{cutAfter}
+use Rattle.two_layer_law.specs.Moves.{MoveState, ready, wrong, spare, filling, moved, movedTo, next}
 use Rattle.two_layer_law.proofs.OneMove.{
   Movable,
   Move,
@@ -28,14 +28,14 @@ use Rattle.two_layer_law.proofs.OneMove.{
 use Rattle.two_layer_law.proofs.Choices.{Choice, still, fill, evict, choice, stuck, fills, evicts}
 
 -- nothing; a net in a column that is to be empty; and that the next move is of another net, to the column just left
-pub data Owed (n : ℕ) (goal : ℕ → ℕ) (st : State) : ℕ → Type 0 where
+pub data Owed (n : ℕ) (goal : ℕ → ℕ) (st : MoveState) : ℕ → Type 0 where
   none : Owed n goal st 0
   one : (c : ℕ) → In c n → goal c ≡ 0 → st .cut c ≢ 0 → Owed n goal st 1
   two : (c : ℕ) → In c n → goal c ≡ 0 → st .cut c ≢ 0 → ready goal (st .cut) (st .left) ≡ true → st .cut c ≢ goal (st .left)
       → Owed n goal st 2
 
 -- no wrong column: all stand right; and nothing is owed
-module _ (n : ℕ) (goal : ℕ → ℕ) (st : State) (k : Movable n goal st) (none-wrong : (c : ℕ) → In c n → wrong goal (st .cut) c ≡ false) where
+module _ (n : ℕ) (goal : ℕ → ℕ) (st : MoveState) (k : Movable n goal st) (none-wrong : (c : ℕ) → In c n → wrong goal (st .cut) c ≡ false) where
   stands : (c : ℕ) → In c n → goal c ≢ 0 → st .cut c ≡ goal c
   stands c i g = by-cases (ℕ-discrete (st .cut c) (goal c)) (λ e. e)
       (λ ne. absurd (false≢true (sym (none-wrong c i) ∙ facts-wrong (goal c) (st .cut c) g ne)))
@@ -54,15 +54,15 @@ module _ (n : ℕ) (goal : ℕ → ℕ) (st : State) (k : Movable n goal st) (no
   owes-nothing (two c i z ne r o) = absurd (ne (all-right c i ∙ z))
 
 -- all stand right; or net x is moved to column t, and the state st′ after it owes m′
-pub data Turn (n : ℕ) (goal : ℕ → ℕ) (st : State) (m x t : ℕ) (st′ : State) : Type 0 where
+pub data Turn (n : ℕ) (goal : ℕ → ℕ) (st : MoveState) (m x t : ℕ) (st′ : MoveState) : Type 0 where
   rest : x ≡ 0 → m ≡ 0 → ((c : ℕ) → In c n → st .cut c ≡ goal c) → Turn n goal st m x t st′
   go : (m′ : ℕ) → Move n goal st x t → Movable n goal st′ → Owed n goal st′ m′
       → 3 * count (wrong goal (st′ .cut)) n + 2 + m ≤ 3 * count (wrong goal (st .cut)) n + m′ → Turn n goal st m x t st′
 
-abbrev TurnBy : ℕ → (ℕ → ℕ) → State → ℕ → ℕ → ℕ → Type 0
+abbrev TurnBy : ℕ → (ℕ → ℕ) → MoveState → ℕ → ℕ → ℕ → Type 0
 TurnBy n goal st m x t = Turn n goal st m x t (shifted x t st)
 
-module _ (n : ℕ) (goal : ℕ → ℕ) (st : State) (k : Movable n goal st) where
+module _ (n : ℕ) (goal : ℕ → ℕ) (st : MoveState) (k : Movable n goal st) where
   -- to its own column: the column just left, if that is owed
   filled : {m : ℕ} (c : ℕ) → filling n goal st ≡ c → In c n → goal c ≢ 0 → st .cut c ≡ 0 → Owed n goal st m → TurnBy n goal st m (goal c) c
   filled c f i g z o = by o
@@ -73,7 +73,7 @@ module _ (n : ℕ) (goal : ℕ → ℕ) (st : State) (k : Movable n goal st) whe
       moves : Movable n goal (shifted (goal c) c st)
       moves = kept n goal st (goal c) c k move
 
-      gain : count (wrong goal (after (goal c) c (st .cut))) n + 1 ≤ count (wrong goal (st .cut)) n
+      gain : count (wrong goal (cutAfter (goal c) c (st .cut))) n + 1 ≤ count (wrong goal (st .cut)) n
       gain = omega (arith, fewer n goal st (goal c) c k move, bit-one (facts-wrong (goal c) (st .cut c) g (λ e. g (sym e ∙ z))))
 
       by : {m : ℕ} → Owed n goal st m → TurnBy n goal st m (goal c) c
@@ -84,7 +84,7 @@ module _ (n : ℕ) (goal : ℕ → ℕ) (st : State) (k : Movable n goal st) whe
           at-left : st .left ≡ c
           at-left = rw r at f
 
-          stays : Past (goal c) c (st .cut) d → after (goal c) c (st .cut) d ≢ 0
+          stays : Past (goal c) c (st .cut) d → cutAfter (goal c) c (st .cut) d ≢ 0
           stays (reached q e) = absurd (g (ap goal (sym q) ∙ y))
           stays (emptied q v e) = absurd (o (v ∙ ap goal (sym at-left)))
           stays (same q v e) = λ u. ne (sym e ∙ u)
@@ -114,18 +114,18 @@ module _ (n : ℕ) (goal : ℕ → ℕ) (st : State) (k : Movable n goal st) whe
       blank : goal t ≡ 0
       blank = by-cases (ℕ-discrete (goal t) 0) (λ z. z) (λ ne. absurd (taken t (move .to) ne (move .free)))
 
-      lies : after x t (st .cut) t ≡ x
+      lies : cutAfter x t (st .cut) t ≡ x
       lies = rw (eq-eqb t t refl)
 
       left : st .at x ≡ c
       left = k .at c i (taken c i g)
 
-      leaves : (d : ℕ) → st .cut d ≡ x → Past x t (st .cut) d → after x t (st .cut) d ≡ 0
+      leaves : (d : ℕ) → st .cut d ≡ x → Past x t (st .cut) d → cutAfter x t (st .cut) d ≡ 0
       leaves d h (reached q e) = absurd (move .named (sym h ∙ ap (st .cut) q ∙ move .free))
       leaves d h (emptied q v e) = e
       leaves d h (same q v e) = absurd (v h)
 
-      left-ready : ready goal (after x t (st .cut)) (st .at x) ≡ true
+      left-ready : ready goal (cutAfter x t (st .cut)) (st .at x) ≡ true
       left-ready = facts-ready (goal (st .at x)) _ (λ z. g (ap goal (sym left) ∙ z))
           (leaves (st .at x) (move .there) (past x t (st .cut) (st .at x)))
 

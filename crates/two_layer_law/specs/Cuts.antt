@@ -4,8 +4,8 @@
 --
 --   Ops                      so many operations, counted from 0: the net of each, the column that it is brought to (0 for none), and
 --                            the ends of its trunk
---   row x t cut              what the vertical layer holds in the track: the cut, and net x in column t
---   after x t cut            the cut past the track: net x in column t alone
+--   cutWith x t cut          what the vertical layer holds in the track: the cut, and net x in column t
+--   cutAfter x t cut         the cut past the track: net x in column t alone
 --   cutOf o start s          the cut after s operations
 --   rowOf o start s          the vertical layer in the track of operation s
 --   trunkOf o s              the horizontal layer in that track
@@ -14,10 +14,10 @@
 --   Runs n start o           each operation is of a net that the cut holds, brought to a column that it has or that is empty, and its trunk
 --                            reaches all its columns
 --   Alone o s x              of the operations only s, if any, is of net x
---   Ended o o′               a net that is brought to no column by o has no other operation
+--   EndsOnce o o′            a net that is brought to no column by o has no other operation
 --   Consistent n p down up   the operations from both sides lead to one cut, and a net without an operation has one column
---   tracksOf down up         "1 ≤ w": a track for each operation, and one where there is none
---   Drawn n p down up x      the wiring of these operations: those from the north in the upper tracks, those from the south in the lower
+--   opTracks down up         "1 ≤ w": a track for each operation, and one where there is none
+--   OpsDrawn n p down up x   the wiring of these operations: those from the north in the upper tracks, those from the south in the lower
 use Prim.Native.Nat.{ℕ, zero, suc, _+_, _-_, _≤_, _<_, max}
 use mathlib.Core.Path.{_≡_}
 use mathlib.Core.Logic.{_⊎_, _≢_}
@@ -51,18 +51,18 @@ followed o o′ =
       high = λ s. cond (ltb s (o .count)) (o .high s) (o′ .high (s - o .count));
     }
 
-abbrev pub row : ℕ → ℕ → (ℕ → ℕ) → ℕ → ℕ
-row x t cut c = cond (eqb c t) x (cut c)
+abbrev pub cutWith : ℕ → ℕ → (ℕ → ℕ) → ℕ → ℕ
+cutWith x t cut c = cond (eqb c t) x (cut c)
 
-abbrev pub after : ℕ → ℕ → (ℕ → ℕ) → ℕ → ℕ
-after x t cut c = cond (eqb c t) x (cond (eqb (cut c) x) 0 (cut c))
+abbrev pub cutAfter : ℕ → ℕ → (ℕ → ℕ) → ℕ → ℕ
+cutAfter x t cut c = cond (eqb c t) x (cond (eqb (cut c) x) 0 (cut c))
 
 unfoldable pub cutOf : Ops → (ℕ → ℕ) → ℕ → ℕ → ℕ
 cutOf o start zero c = start c
-cutOf o start (suc s) c = after (o .net s) (o .to s) (cutOf o start s) c
+cutOf o start (suc s) c = cutAfter (o .net s) (o .to s) (cutOf o start s) c
 
 abbrev pub rowOf : Ops → (ℕ → ℕ) → ℕ → ℕ → ℕ
-rowOf o start s c = row (o .net s) (o .to s) (cutOf o start s) c
+rowOf o start s c = cutWith (o .net s) (o .to s) (cutOf o start s) c
 
 abbrev pub trunkOf : Ops → ℕ → ℕ → ℕ
 trunkOf o s c = cond (leb (o .low s) c && leb c (o .high s)) (o .net s) 0
@@ -78,23 +78,23 @@ pub record Runs (n : ℕ) (start : ℕ → ℕ) (o : Ops) : Type 0 where
 abbrev pub Alone : Ops → ℕ → ℕ → Type 0
 Alone o s x = (r : ℕ) → r < o .count → o .net r ≡ x → r ≡ s
 
-abbrev pub Ended : Ops → Ops → Type 0
-Ended o o′ = (s : ℕ) → s < o .count → o .to s ≡ 0 → Alone o s (o .net s) × ((r : ℕ) → r < o′ .count → o′ .net r ≢ o .net s)
+abbrev pub EndsOnce : Ops → Ops → Type 0
+EndsOnce o o′ = (s : ℕ) → s < o .count → o .to s ≡ 0 → Alone o s (o .net s) × ((r : ℕ) → r < o′ .count → o′ .net r ≢ o .net s)
 
 pub record Consistent (n : ℕ) (p : Pins) (down up : Ops) : Type 0 where
   pub norths : Runs n (p north) down
   pub souths : Runs n (p south) up
   pub meet : (c : ℕ) → In c n → cutOf down (p north) (down .count) c ≡ cutOf up (p south) (up .count) c
-  pub ended : Ended down up
+  pub ended : EndsOnce down up
   pub straight : (m a b : ℕ) → m ≢ 0 → ((s : ℕ) → s < down .count → down .net s ≢ m) → ((s : ℕ) → s < up .count → up .net s ≢ m)
       → In a n → In b n → p north a ≡ m → p north b ≡ m → a ≡ b
 
-abbrev pub tracksOf : Ops → Ops → ℕ
-tracksOf down up = max 1 (down .count + up .count)
+abbrev pub opTracks : Ops → Ops → ℕ
+opTracks down up = max 1 (down .count + up .count)
 
-pub record Drawn (n : ℕ) (p : Pins) (down up : Ops) (x : Wiring) : Type 0 where
-  pub upper : (s c : ℕ) → s < down .count → In c n → x c (tracksOf down up - s) 1 ≡ rowOf down (p north) s c
-  pub upper-trunk : (s c : ℕ) → s < down .count → In c n → x c (tracksOf down up - s) 2 ≡ trunkOf down s c
+pub record OpsDrawn (n : ℕ) (p : Pins) (down up : Ops) (x : Wiring) : Type 0 where
+  pub upper : (s c : ℕ) → s < down .count → In c n → x c (opTracks down up - s) 1 ≡ rowOf down (p north) s c
+  pub upper-trunk : (s c : ℕ) → s < down .count → In c n → x c (opTracks down up - s) 2 ≡ trunkOf down s c
   pub lower : (s c : ℕ) → s < up .count → In c n → x c (suc s) 1 ≡ rowOf up (p south) s c
   pub lower-trunk : (s c : ℕ) → s < up .count → In c n → x c (suc s) 2 ≡ trunkOf up s c
   pub idle : (c : ℕ) → down .count + up .count ≡ 0 → In c n → x c 1 1 ≡ p north c

@@ -13,21 +13,21 @@ use lib.Seq.{getD-set-same, getD-set-other}
 use borrow.Author.Tests.{eq-eqb, ne-eqb, le-leb, lt-leb, leb-true}
 use Rattle.terms.specs.Limits.{byteValues, longestSide}
 use Rattle.counting.specs.Counting.{least}
-use Rattle.two_layer_law.specs.Cuts.{after}
-use Rattle.two_layer_law.specs.Moves.{State, ready, wrong, spare, filling, blocked, moved, movedTo, next}
+use Rattle.two_layer_law.specs.Cuts.{cutAfter}
+use Rattle.two_layer_law.specs.Moves.{MoveState, ready, wrong, spare, filling, blocked, moved, movedTo, next}
 use Rattle.two_layer_law.specs.Moves.{stateAt, steps, movesOf, mostMoves}
 use Rattle.two_layer_cuts.specs.Rows.{item, Row}
-use Rattle.two_layer_plan.specs.Tables.{stateOf, Agree, outOfWay, Next}
+use Rattle.two_layer_plan.specs.States.{stateOf, Agree, outOfWay, Next}
 use Rattle.two_layer_law.specs.Cuts.{Same}
 use Rattle.counting.proofs.Leasts.{least-le, least-same}
-use Rattle.two_layer_plan.proofs.Listing.{listed, Held, held-more}
+use Rattle.two_layer_gather.proofs.Listing.{listed, Held, held-more}
 
 cond-with : {b b′ : Bool} {x x′ y y′ : ℕ} → b ≡ b′ → x ≡ x′ → y ≡ y′ → cond b x y ≡ cond b′ x′ y′
 cond-with e f g = rw (e, f, g)
 
 -- ---- states that agree
 
-module _ (n : ℕ) (goal goal′ : ℕ → ℕ) (same : (c : ℕ) → c ≤ n → goal c ≡ goal′ c) (st st′ : State) (h : Agree n st st′)
+module _ (n : ℕ) (goal goal′ : ℕ → ℕ) (same : (c : ℕ) → c ≤ n → goal c ≡ goal′ c) (st st′ : MoveState) (h : Agree n st st′)
     (l : st .left ≤ n) where
   ready-same : (c : ℕ) → c ≤ n → ready goal (st .cut) c ≡ ready goal′ (st′ .cut) c
   ready-same c b = rw (same c b, h .cuts c b)
@@ -75,7 +75,7 @@ module _ (n : ℕ) (goal goal′ : ℕ → ℕ) (same : (c : ℕ) → c ≤ n �
       both-same : {x x′ y y′ : ℕ} → x ≡ x′ → y ≡ y′ → eqb x y ≡ eqb x′ y′
       both-same e f = rw (e, f)
 
-agree-then : {n : ℕ} {st st′ st″ : State} → Agree n st st′ → Agree n st′ st″ → Agree n st st″
+agree-then : {n : ℕ} {st st′ st″ : MoveState} → Agree n st st′ → Agree n st′ st″ → Agree n st st″
 agree-then h k = record { cuts = λ c b. h .cuts c b ∙ k .cuts c b; ats = λ m b. h .ats m b ∙ k .ats m b; lefts = h .lefts ∙ k .lefts }
 
 -- ---- the next move
@@ -87,7 +87,7 @@ pub out-none : (n : ℕ) (goal cut : ℕ → ℕ) (b : ℕ) → b ≡ least (wro
 out-none n goal cut b e l = rw (← e, lt-leb 1 b l)
 
 module _ (n : ℕ) (goal cut at : ℕ → ℕ) (left : ℕ) (none : goal 0 ≡ 0) where
-  abbrev now : State
+  abbrev now : MoveState
   now = record { cut = cut; at = at; left = left }
 
   filled : (f : ℕ) → 1 ≤ f → filling n goal now ≡ f → Next n goal cut at left (goal f) f
@@ -113,19 +113,19 @@ module _ (n : ℕ) (goal cut at : ℕ → ℕ) (left : ℕ) (none : goal 0 ≡ 0
 
 -- ---- the moves made
 
-pub record MoveOf (n : ℕ) (goal : ℕ → ℕ) (st : State) (s x t l h : ℕ) : Type 0 where
+pub record MoveOf (n : ℕ) (goal : ℕ → ℕ) (st : MoveState) (s x t l h : ℕ) : Type 0 where
   pub net : x ≡ moved n goal (stateAt n goal st s)
   pub to : t ≡ movedTo n goal (stateAt n goal st s)
   pub low : l ≡ min (stateAt n goal st s .at (moved n goal (stateAt n goal st s))) (movedTo n goal (stateAt n goal st s))
   pub high : h ≡ max (stateAt n goal st s .at (moved n goal (stateAt n goal st s))) (movedTo n goal (stateAt n goal st s))
 
 -- after s moves; with the moves still allowed they are as many as there are from the start
-pub record Moving (n : ℕ) (goal : ℕ → ℕ) (st : State) (nets tos lows highs cut at : List ℕ) (left s : ℕ) : Type 0 where
+pub record Moving (n : ℕ) (goal : ℕ → ℕ) (st : MoveState) (nets tos lows highs cut at : List ℕ) (left s : ℕ) : Type 0 where
   pub agree : Agree n (stateAt n goal st s) (stateOf cut at left)
   pub held : Held (MoveOf n goal st) nets tos lows highs s
   pub rest : (f : ℕ) → s + f ≡ mostMoves → s + steps n goal (stateAt n goal st s) f ≡ steps n goal st mostMoves
 
-module _ (n : ℕ) (goal : ℕ → ℕ) (st : State) where
+module _ (n : ℕ) (goal : ℕ → ℕ) (st : MoveState) where
   pub moving-none : (nets tos lows highs cut at : List ℕ) → Held (MoveOf n goal st) nets tos lows highs 0 → Agree n st (stateOf cut at 0)
       → Moving n goal st nets tos lows highs cut at 0 0
   unfolding stateAt
@@ -135,7 +135,7 @@ module _ (n : ℕ) (goal : ℕ → ℕ) (st : State) where
     rest = λ f e. (let q : f ≡ mostMoves = omega arith in rw q (omega arith));
   }
 
-  stopped : (u : State) → moved n goal u ≡ 0 → (f : ℕ) → steps n goal u f ≡ 0
+  stopped : (u : MoveState) → moved n goal u ≡ 0 → (f : ℕ) → steps n goal u f ≡ 0
   unfolding steps
   stopped u z zero = refl
   stopped u z (suc f) = rw z
@@ -175,7 +175,7 @@ module _ (n : ℕ) (goal : ℕ → ℕ) (st : State) where
           omega (arith, stopped (stateAt n goal st s) (net-is ∙ z) (mostMoves - s)))
 
       one-move : s < mostMoves → n ≤ longestSide → x ≢ 0 → x < byteValues → length at ≡ byteValues
-          → (cut′ : List ℕ) → Row longestSide (after x t (item cut)) cut′ → (l h : ℕ) → l ≡ min (getD at x 0) t → h ≡ max (getD at x 0) t
+          → (cut′ : List ℕ) → Row longestSide (cutAfter x t (item cut)) cut′ → (l h : ℕ) → l ≡ min (getD at x 0) t → h ≡ max (getD at x 0) t
           → Moving n goal st (set nets s x) (set tos s t) (set lows s l) (set highs s h) cut′ (set at x t) (getD at x 0) (s + 1)
       unfolding stateAt steps next
       one-move few short nz small room cut′ row′ l h el eh = rw add-one (record {
@@ -212,7 +212,7 @@ module _ (n : ℕ) (goal : ℕ → ℕ) (st : State) where
 
       -- k is the net as the place of its entry, and the column from which it is moved is read there
       pub moving-more : s < mostMoves → n ≤ longestSide → x ≢ 0 → length at ≡ byteValues → (k from : ℕ) → k ≡ x
-          → k < byteValues → from ≡ getD at k 0 → (cut′ : List ℕ) → Row longestSide (after x t (item cut)) cut′
+          → k < byteValues → from ≡ getD at k 0 → (cut′ : List ℕ) → Row longestSide (cutAfter x t (item cut)) cut′
           → (l h : ℕ) → l ≡ min (getD at k 0) t → h ≡ max (getD at k 0) t
           → Moving n goal st (set nets s x) (set tos s t) (set lows s l) (set highs s h) cut′ (set at k t) from (s + 1)
       moving-more few short nz room k from ek small ef cut′ row′ l h el eh =

@@ -11,10 +11,11 @@ use Rattle.terms.specs.Limits.{byteValues}
 use Rattle.grid.specs.Legal.{entry}
 use Rattle.two_layer_law.specs.Moves.{firstOn, leads, solidTest, startOf}
 use Rattle.two_layer_cuts.specs.Rows.{item, Row}
-use Rattle.two_layer_plan.specs.Tables.{Table, stateOf, Agree, isSolid}
+use Rattle.two_layer_gather.specs.Tables.{Table}
+use Rattle.two_layer_plan.specs.States.{stateOf, Agree, leadsSolid}
 use Rattle.counting.proofs.Leasts.{least-le}
 use Rattle.counting.proofs.Tests.{some-same}
-use Rattle.two_layer_plan.proofs.Tables.{lead-zero}
+use Rattle.two_layer_gather.proofs.Tables.{lead-zero}
 
 module _ (xs : List ℕ) (n : ℕ) (first : List ℕ) (fs : Table (firstOn (entry xs) n) first) where
   -- every net's column is one of the channel's
@@ -32,7 +33,7 @@ pub none-first : (xs ys : List ℕ) (n : ℕ) (row : List ℕ) → Row n (leads 
 none-first xs ys n row r = r .is 0 (omega arith) ∙ lead-zero xs (entry ys) n
 
 pub solid-same : (a b : ℕ → ℕ) (n : ℕ) (cut goal : List ℕ) → Row n (leads a b n) cut → Row n (leads b a n) goal
-    → isSolid (item cut) (item goal) n ≡ solidTest a b n
+    → leadsSolid (item cut) (item goal) n ≡ solidTest a b n
 solid-same a b n cut goal r s = both-same
     (ap not (some-same (λ c. not (leb 1 (item cut c) && leb 1 (item goal c))) (λ c. not (leb 1 (leads a b n c) && leb 1 (leads b a n c))) n
     (λ c i. rw (r .is c (i .1), s .is c (i .1)))))

@@ -15,19 +15,19 @@ use terms::wide;
 use two_layer_cuts::COLUMN_ENTRIES;
 use two_layer_cuts::Operations;
 use two_layer_cuts::cut_after;
-use two_layer_cuts::when;
+use two_layer_gather::firsts;
+use two_layer_gather::gather_side;
+use two_layer_gather::leads;
 ghost use mathlib.Core.Path.{_≡_};
-ghost use mathlib.Core.Bool.{cond};
 ghost use Prim.Native.Nat.{ℕ, _≤_};
-ghost use lib.Dec.{eqb};
 ghost use lib.ListN.{getD};
-ghost use Rattle.counting.specs.Counting.{bit, least};
+ghost use Rattle.counting.specs.Counting.{least};
 ghost use Rattle.terms.specs.Limits.{longestSide};
 ghost use Rattle.grid.specs.Legal.{entry};
 ghost use Rattle.two_layer_law.specs.Cuts.{Same};
-ghost use Rattle.two_layer_law.specs.Moves.{firstOn, lastOn, leads, ready, wrong, spare, Gathered, State, steps, movesOf, mostMoves};
+ghost use Rattle.two_layer_law.specs.Moves.{ready, wrong, spare, MoveState, steps, movesOf, mostMoves};
 ghost use Rattle.two_layer_cuts.specs.Rows.{opsOf, item, Row};
-ghost use Rattle.two_layer_plan.specs.Tables.{pinsOn, Table, stateOf, Agree, isSolid, outOfWay, Next, noOperations};
+ghost use Rattle.two_layer_plan.specs.States.{stateOf, Agree, leadsSolid, outOfWay, Next, noOperations};
 ghost use Rattle.two_layer_plan.specs.Plan.{Planned};
 
 // The operations of a channel: nets of several north pins are gathered, nets are moved, nets of several south pins are gathered, which
@@ -41,89 +41,6 @@ pub struct Plan {
 
 // Enough for every channel.
 const MOST_MOVES: usize = 135;
-
-fn one_if(b: bool) -> usize
-    ensures { λ r. ⌜ r ≡ bit b ⌝ }
-{
-    if b { 1 } else { 0 }
-}
-
-// The first of two columns that is one.
-fn first_of(a: u8, b: u8) -> u8
-    ensures { λ r. ⌜ r ≡ cond (eqb a 0) b a ⌝ }
-{
-    if a == 0 { b } else { a }
-}
-
-// ---- the pins of a side
-
-// The first column of each net, 0 where the side does not hold it. No branch depends on the nets.
-fn firsts(side: &[u8; LONGEST_SIDE], n: usize) -> [u8; BYTE_VALUES]
-    requires { ⌜ n ≤ longestSide ⌝ }
-    ensures { λ r. ⌜ Table (firstOn (entry (now (side .entry))) n) r ⌝ }
-{
-    let mut first = [0u8; BYTE_VALUES];
-    let mut c: usize = 0;
-    while c < n {
-        let m = entry_of(side[c]);
-        c += 1;
-        first[m] = first_of(first[m], c as u8);
-    }
-    first
-}
-
-// The last column of each net.
-fn lasts(side: &[u8; LONGEST_SIDE], n: usize) -> [u8; BYTE_VALUES]
-    requires { ⌜ n ≤ longestSide ⌝ }
-    ensures { λ r. ⌜ Table (lastOn (entry (now (side .entry))) n) r ⌝ }
-{
-    let mut last = [0u8; BYTE_VALUES];
-    let mut c: usize = 0;
-    while c < n {
-        let m = entry_of(side[c]);
-        c += 1;
-        last[m] = c as u8;
-    }
-    last
-}
-
-// How many pins each net has.
-fn pin_counts(side: &[u8; LONGEST_SIDE], n: usize) -> [u8; BYTE_VALUES]
-    requires { ⌜ n ≤ longestSide ⌝ }
-    ensures { λ r. ⌜ Table (pinsOn (entry (now (side .entry))) n) r ⌝ }
-{
-    let mut count = [0u8; BYTE_VALUES];
-    let mut c: usize = 0;
-    while c < n {
-        let m = entry_of(side[c]);
-        c += 1;
-        count[m] = count[m] + 1;
-    }
-    count
-}
-
-// The nets of both sides, each in the first column in which this side holds it; the tables are the first columns of this side's nets and of
-// the other's.
-fn leads(
-    side: &[u8; LONGEST_SIDE],
-    first: &[u8; BYTE_VALUES],
-    other: &[u8; BYTE_VALUES],
-    n: usize,
-) -> [u8; COLUMN_ENTRIES]
-    requires { ⌜ n ≤ longestSide ⌝ }
-    ensures { λ r. ⌜ ((b : ℕ → ℕ) → Table (firstOn (entry (now (side .entry))) n) (now (first .entry)) →
-        Table (firstOn b n) (now (other .entry)) → Row n (leads (entry (now (side .entry))) b n) r) ⌝ }
-{
-    let mut lead = [0u8; COLUMN_ENTRIES];
-    let mut c: usize = 0;
-    while c < n {
-        let net = side[c];
-        let m = entry_of(net);
-        c += 1;
-        lead[c] = when(both(wide(first[m]) == c, 1 <= other[m]), net);
-    }
-    lead
-}
 
 // None is counted yet.
 fn no_operations() -> Operations
@@ -142,64 +59,10 @@ fn no_operations() -> Operations
     }
 }
 
-// ---- the nets of several pins of a side
-
-// In rising order of nets. Each net is written, and written over if it has one pin or none: no branch depends on the nets. `other` has the
-// first columns of the other side.
-fn gather(
-    pins: &[u8; BYTE_VALUES],
-    first: &[u8; BYTE_VALUES],
-    last: &[u8; BYTE_VALUES],
-    other: &[u8; BYTE_VALUES],
-) -> Operations
-    ensures { λ r. ⌜ ((a b : ℕ → ℕ) (n : ℕ) → Table (pinsOn a n) (now (pins .entry)) → Table (firstOn a n) (now (first .entry)) →
-        Table (lastOn a n) (now (last .entry)) → Table (firstOn b n) (now (other .entry)) → Gathered a b n (opsOf r)) ⌝ }
-{
-    let mut nets = [0u8; LARGEST_NET];
-    let mut tos = [0u8; LARGEST_NET];
-    let mut lows = [0u8; LARGEST_NET];
-    let mut highs = [0u8; LARGEST_NET];
-    let mut found: usize = 0;
-    let mut m: usize = 0;
-    while m < LARGEST_NET {
-        m += 1;
-        nets[found] = m as u8;
-        tos[found] = when(1 <= other[m], first[m]);
-        lows[found] = first[m];
-        highs[found] = last[m];
-        found += one_if(2 <= pins[m]);
-    }
-    Operations {
-        nets,
-        tos,
-        lows,
-        highs,
-        count: found,
-    }
-}
-
-// The same from the side itself.
-fn gather_side(
-    side: &[u8; LONGEST_SIDE],
-    first: &[u8; BYTE_VALUES],
-    other: &[u8; BYTE_VALUES],
-    n: usize,
-) -> Operations
-    requires { ⌜ n ≤ longestSide ⌝ }
-    ensures { λ r. ⌜ ((b : ℕ → ℕ) → Table (firstOn (entry (now (side .entry))) n) (now (first .entry)) →
-        Table (firstOn b n) (now (other .entry)) → Gathered (entry (now (side .entry))) b n (opsOf r)) ⌝ }
-{
-    let pins = pin_counts(side, n);
-    let last = lasts(side, n);
-    gather(&pins, first, &last, other)
-}
-
-// ---- the moves
-
 // In both rows every column has a net, and not the same everywhere.
 fn is_solid(cut: &[u8; COLUMN_ENTRIES], goal: &[u8; COLUMN_ENTRIES], n: usize) -> bool
     requires { ⌜ n ≤ longestSide ⌝ }
-    ensures { λ r. ⌜ r ≡ isSolid (item (now (cut .entry))) (item (now (goal .entry))) n ⌝ }
+    ensures { λ r. ⌜ r ≡ leadsSolid (item (now (cut .entry))) (item (now (goal .entry))) n ⌝ }
 {
     let mut bare = false;
     let mut crooked = false;
@@ -312,7 +175,7 @@ fn find_moves(
     n: usize,
 ) -> Operations
     requires { ⌜ (n ≤ longestSide) × (getD (now goal) 0 0 ≡ 0) × ((m : ℕ) → getD first m 0 ≤ n) ⌝ }
-    ensures { λ r. ⌜ ((goal′ : ℕ → ℕ) (st : State) → Row n goal′ (now (goal .entry)) → Agree n st (stateOf start first 0) →
+    ensures { λ r. ⌜ ((goal′ : ℕ → ℕ) (st : MoveState) → Row n goal′ (now (goal .entry)) → Agree n st (stateOf start first 0) →
         Same (opsOf r) (movesOf n goal′ st (steps n goal′ st mostMoves))) ⌝ }
 {
     let mut made = no_operations();

@@ -1,7 +1,8 @@
 -- "Layer view, given wiring, n, w, k and layer."
 --
 --   viewRefusal x n w k l    "11, n or w outside 1 to 90 or k outside 1 to 255 (0); 12, as above; 16, layer outside 1 to k (that layer)";
---                            the limit on w is 157 "in Layer view always" (document 02, job 1); 12 as above is "wiring length not n × w × k (the right length)"
+--                            the limit on w is 157 "in Layer view always" (document 02, job 1); 12 as above is "wiring length not
+--                            n × w × k (the right length)"
 --   viewAccepted x n w k l   nothing is refused
 --   viewStart, viewLength    where the layer's part starts in the wiring, at the layer's first point, and its length; 0 and 0 when refused
 --   viewPart x n w k l       the "part of n × w bytes for the layer, and an empty part when refused"

@@ -4,8 +4,8 @@ use mathlib.Core.Path.{refl, sym, ap, ap₂, _∙_}
 use native.Mathlib.Omega.{arith}
 use borrow.Author.Needs.{needs}
 use Rattle.terms.specs.Refusals.{refusal}
-use Rattle.sweep.proofs.Offsets.{still-fits}
-use Rattle.checker.proofs.Scans.{all-firsts}
+use Rattle.check_sweep.proofs.Fitting.{still-fits}
+use Rattle.checker.proofs.Answers.{all-firsts}
 use Rattle.checker.proofs.Answers.{judged-foreign, judged-legal, judged-broken}
 use Rattle.checker.proofs.judge.Statement.{statement}
 use Rattle.checker.proofs.judge.Tie as tie

@@ -2,7 +2,7 @@
 use native.Mathlib.Omega.{arith}
 use borrow.Author.Needs.{needs}
 use denote.Ref.{now}
-use Rattle.sweep.proofs.Settling.{settled-after}
+use Rattle.check_sweep.proofs.Settling.{settled-after}
 use Rattle.checker.proofs.torn.Statement.{statement}
 use Rattle.checker.proofs.torn.Tie as tie
 
@@ -21,34 +21,38 @@ settle-requires c κs =
 
 lowest-of-requires : tie.Need-lowest-of-requires
 lowest-of-requires c κs =
-    let pre = c .before .before .before .before .before .before .before .before .before .before .before .before .before .before .before .before .before .before .before .before .before .before .before .before .pre in
-    let clear = c .before .before .before .before .before .before .before .before .before .before .before .before .before .before .before .before .before .before .clear in
-    let spread = c .before .before .before .before .before .before .before .before .before .before .before .before .before .spread in
+    let c10 = c .before .before .before .before .before .before .before .before .before .before in
+    let pre = c10 .before .before .before .before .before .before .before .before .before .before .before .before .before .before .pre in
+    let clear = c10 .before .before .before .before .before .before .before .before .clear in
+    let spread = c10 .before .before .before .spread in
     let settle = c .before .before .before .before .before .before .settle in
     omega (arith, pre .0, clear .kept, spread .kept, settle .kept)
 
 same-length : tie.Need-same-length
 same-length c =
-    let pre = c .before .before .before .before .before .before .before .before .before .before .before .before .before .before .before .before .before .before .before .before .before .before .before .before .before .pre in
-    let clear = c .before .before .before .before .before .before .before .before .before .before .before .before .before .before .before .before .before .before .before .clear in
-    let spread = c .before .before .before .before .before .before .before .before .before .before .before .before .before .before .spread in
+    let c10 = c .before .before .before .before .before .before .before .before .before .before in
+    let pre = c10 .before .before .before .before .before .before .before .before .before .before .before .before .before .before .before .pre in
+    let clear = c10 .before .before .before .before .before .before .before .before .before .clear in
+    let spread = c10 .before .before .before .before .spread in
     let settle = c .before .before .before .before .before .before .before .settle in
     omega (arith, pre .0, clear .kept, spread .kept, settle .kept)
 
 same-length-2 : tie.Need-same-length-2
 same-length-2 c =
-    let pre = c .before .before .before .before .before .before .before .before .before .before .before .before .before .before .before .before .before .before .before .before .before .before .before .before .before .pre in
-    let clear = c .before .before .before .before .before .before .before .before .before .before .before .before .before .before .before .before .before .before .before .clear in
-    let spread = c .before .before .before .before .before .before .before .before .before .before .before .before .before .before .spread in
+    let c10 = c .before .before .before .before .before .before .before .before .before .before in
+    let pre = c10 .before .before .before .before .before .before .before .before .before .before .before .before .before .before .before .pre in
+    let clear = c10 .before .before .before .before .before .before .before .before .before .clear in
+    let spread = c10 .before .before .before .before .spread in
     let settle = c .before .before .before .before .before .before .before .settle in
     omega (arith, pre .0, clear .kept, spread .kept, settle .kept)
 
 returns : tie.Need-returns
 returns c =
-    let start = c .before .before .before .before .before .before .before .before .before .before .before .before .before .before .before .before .before .before .before .before .before .before .before .before .before in
+    let c10 = c .before .before .before .before .before .before .before .before .before .before in
+    let start = c10 .before .before .before .before .before .before .before .before .before .before .before .before .before .before .before in
     let settle = c .before .before .before .before .before .before .before .settle in
-    let clear = c .before .before .before .before .before .before .before .before .before .before .before .before .before .before .before .before .before .before .before .clear in
-    let spread = c .before .before .before .before .before .before .before .before .before .before .before .before .before .before .spread in
+    let clear = c10 .before .before .before .before .before .before .before .before .before .clear in
+    let spread = c10 .before .before .before .before .spread in
     record {
       s = settle .last .1 .0;
       m = settle .last .1 .1 .1 .0;

@@ -41,8 +41,10 @@ tracks-for-requires c κs = (
 )
 
 layers-for-requires : tie.Need-layers-for-requires
-layers-for-requires c κs = let z = sizes (c .before .before .before .before .before .before .before .before .before .before .before) in
-    (c .before .before .before .before .before .before .before .before .before .before .before .before .before .before .before .before .before .before .before .pre .columns, z .second)
+layers-for-requires c κs =
+    let c11 = c .before .before .before .before .before .before .before .before .before .before .before in
+    let z = sizes c11 in
+    (c11 .before .before .before .before .before .before .before .before .pre .columns, z .second)
 
 rounded-up-requires : tie.Need-rounded-up-requires
 rounded-up-requires c κs = (
@@ -51,9 +53,12 @@ rounded-up-requires c κs = (
       (c .before .before .before .before .before .before .before .before .before .before .before .before) .width,
 )
 
-fits : (c : tie.After-by-kind3) → c .before .before .floor-for .result
-    ≡ floor (ceil (c .before .before .before .before .before .before .before .before .before .before .before .before .density .result)
-    (c .before .before .before .before .before .before .before .before .before .before .before .before .before .before .before .before .before .by-kind .result)) (ceil (c .before .before .before .before .before .before .before .up-for .result) (c .before .before .before .before .before .before .before .before .before .before .before .before .before .before .before .before .before .before .column-count .result))
+-- the floor's arguments, as they were computed before it
+fits : (c : tie.After-by-kind3) → let c7 = c .before .before .before .before .before .before .before in
+    let c12 = c7 .before .before .before .before .before in
+    let c17 = c12 .before .before .before .before .before in
+    c .before .before .floor-for .result
+    ≡ floor (ceil (c12 .density .result) (c17 .by-kind .result)) (ceil (c7 .up-for .result) (c17 .before .column-count .result))
 fits c = c .before .before .floor-for .ensures ∙ ap₂ floor (c .before .before .before .before .rounded-up .ensures .0)
     (c .before .before .before .rounded-up2 .ensures .0)
 

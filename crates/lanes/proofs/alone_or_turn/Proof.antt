@@ -6,15 +6,17 @@ use native.Mathlib.Omega.{arith}
 use borrow.Author.Needs.{needs}
 use denote.Ref.{now}
 use lib.ListN.{length, length-set, getD}
+use Rattle.terms.specs.Limits.{netEntries}
 use Rattle.lanes.proofs.Wanting.{Told, told-more}
 use Rattle.lanes.proofs.alone_or_turn.Statement.{statement}
 use Rattle.lanes.proofs.alone_or_turn.Tie as tie
 
 abbrev Inv-loop : tie.InvT-loop
-Inv-loop alone pairs turn out₀ k₀ out k = (k ≤ 181) × (length out ≡ 181) × Told (λ m. getD alone m false || (getD pairs m false && getD turn m false)) out k
+Inv-loop alone pairs turn out₀ k₀ out k =
+    (k ≤ netEntries) × (length out ≡ netEntries) × Told (λ m. getD alone m false || (getD pairs m false && getD turn m false)) out k
 
 abbrev μ-loop : tie.MeasureT-loop
-μ-loop alone pairs turn out₀ k₀ out k = 181 - k
+μ-loop alone pairs turn out₀ k₀ out k = netEntries - k
 
 loop-holds : tie.Need-loop-holds Inv-loop μ-loop
 loop-holds c = (omega arith, refl, λ m h. absurd (omega arith))

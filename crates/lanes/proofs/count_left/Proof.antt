@@ -9,14 +9,15 @@ use lib.ListN.{getD}
 use Rattle.counting.specs.Counting.{bit, count}
 use Rattle.counting.proofs.Sums.{sum-none, sum-more}
 use Rattle.counting.proofs.Counts.{count-le}
+use Rattle.terms.specs.Limits.{largestNet}
 use Rattle.lanes.proofs.count_left.Statement.{statement}
 use Rattle.lanes.proofs.count_left.Tie as tie
 
 abbrev Inv-loop : tie.InvT-loop
-Inv-loop left count₀ k₀ n k = (k ≤ 180) × (n ≡ count (λ m. getD left m false) k)
+Inv-loop left count₀ k₀ n k = (k ≤ largestNet) × (n ≡ count (λ m. getD left m false) k)
 
 abbrev μ-loop : tie.MeasureT-loop
-μ-loop left count₀ k₀ n k = 180 - k
+μ-loop left count₀ k₀ n k = largestNet - k
 
 loop-holds : tie.Need-loop-holds Inv-loop μ-loop
 loop-holds c = (omega arith, sym (sum-none _))
@@ -37,7 +38,7 @@ loop-again c =
 returns : tie.Need-returns Inv-loop μ-loop
 returns c =
     let l = c .before .before .loop in
-    let e : l .k ≡ 180 = omega arith in
+    let e : l .k ≡ largestNet = omega arith in
     rw (← e) (omega (arith, l .inv .1, c .wide .ensures))
 
 pub count-left-spec : {M : Type 1} → statement M

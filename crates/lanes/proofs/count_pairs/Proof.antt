@@ -4,6 +4,7 @@ use mathlib.Core.Path.{_≡_, refl}
 use native.Mathlib.Omega.{arith}
 use borrow.Author.Needs.{needs}
 use lib.ListN.{length, length-set}
+use Rattle.terms.specs.Limits.{netEntries, largestNet}
 use Rattle.lanes.specs.Tables.{Halved}
 use Rattle.lanes.proofs.Tables.{halved-none, halved-swap, halved-le, halved-more}
 use Rattle.lanes.proofs.Placing.{small-net}
@@ -11,7 +12,7 @@ use Rattle.lanes.proofs.count_pairs.Statement.{statement}
 use Rattle.lanes.proofs.count_pairs.Tie as tie
 
 abbrev Inv-loop : tie.InvT-loop
-Inv-loop side odd₀ even₀ i₀ odd even i = (i ≤ length side) × (length even ≡ 181) × (length odd ≡ 181) × Halved side i even odd
+Inv-loop side odd₀ even₀ i₀ odd even i = (i ≤ length side) × (length even ≡ netEntries) × (length odd ≡ netEntries) × Halved side i even odd
 
 abbrev μ-loop : tie.MeasureT-loop
 μ-loop side odd₀ even₀ i₀ odd even i = length side - i
@@ -19,17 +20,17 @@ abbrev μ-loop : tie.MeasureT-loop
 loop-holds : tie.Need-loop-holds Inv-loop μ-loop
 loop-holds c = (omega arith, refl, c .before .pre .1, halved-none (c .before .args .side .now) _ (c .before .pre .2))
 
-first : (c : tie.After-wide Inv-loop μ-loop) → c .wide .result ≤ 180
+first : (c : tie.After-wide Inv-loop μ-loop) → c .wide .result ≤ largestNet
 first c =
     let c3 = c .before .before .before in
     omega (arith, c .wide .ensures, small-net _ (c3 .loop .i) (c3 .before .before .pre .0))
 
-second : (c : tie.After-wide2 Inv-loop μ-loop) → c .wide2 .result ≤ 180
+second : (c : tie.After-wide2 Inv-loop μ-loop) → c .wide2 .result ≤ largestNet
 second c =
     let c5 = c .before .before .before .before .before in
     omega (arith, c .wide2 .ensures, small-net _ (c5 .loop .i + 1) (c5 .before .before .pre .0))
 
-last : (c : tie.After-wide3 Inv-loop μ-loop) → c .wide3 .result ≤ 180
+last : (c : tie.After-wide3 Inv-loop μ-loop) → c .wide3 .result ≤ largestNet
 last c =
     let c4 = c .before .before .before .before in
     omega (arith, c .wide3 .ensures, small-net _ (c4 .loop .i) (c4 .before .before .pre .0))

@@ -6,19 +6,20 @@ use borrow.Author.Needs.{needs}
 use lib.Dec.{eqb}
 use lib.ListN.{length, length-set, getD-replicate}
 use Rattle.counting.proofs.Counts.{count-le}
+use Rattle.terms.specs.Limits.{netEntries}
 use Rattle.grid.specs.Legal.{entry}
 use Rattle.lanes.proofs.Tables.{Summed, summed-more}
 use Rattle.lanes.proofs.count_side.Statement.{statement}
 use Rattle.lanes.proofs.count_side.Tie as tie
 
 abbrev Inv-loop : tie.InvT-loop
-Inv-loop side odd even counts₀ k₀ counts k = (k ≤ 181) × (length counts ≡ 181) × Summed even odd counts k
+Inv-loop side odd even counts₀ k₀ counts k = (k ≤ netEntries) × (length counts ≡ netEntries) × Summed even odd counts k
 
 abbrev μ-loop : tie.MeasureT-loop
-μ-loop side odd even counts₀ k₀ counts k = 181 - k
+μ-loop side odd even counts₀ k₀ counts k = netEntries - k
 
 count-pairs-requires : tie.Need-count-pairs-requires Inv-loop μ-loop
-count-pairs-requires c κs = (c .before .before .pre, refl, λ m l. getD-replicate 181 m 0 0 l)
+count-pairs-requires c κs = (c .before .before .pre, refl, λ m l. getD-replicate netEntries m 0 0 l)
 
 loop-holds : tie.Need-loop-holds Inv-loop μ-loop
 loop-holds c = (omega arith, refl, λ m l. absurd (omega arith))

@@ -9,16 +9,17 @@ use lib.ListN.{length, length-set, getD}
 use Rattle.counting.specs.Counting.{count}
 use Rattle.counting.proofs.Sums.{sum-none}
 use Rattle.counting.proofs.Counts.{count-le}
+use Rattle.terms.specs.Limits.{largestNet, netEntries}
 use Rattle.lanes.specs.Placing.{Listed}
 use Rattle.lanes.proofs.Placing.{listed-none, listed-more}
 use Rattle.lanes.proofs.list_left.Statement.{statement}
 use Rattle.lanes.proofs.list_left.Tie as tie
 
 abbrev Inv-loop : tie.InvT-loop
-Inv-loop left list₀ count₀ k₀ list n k = (k ≤ 180) × (length list ≡ 181) × (n ≡ count (λ m. getD left m false) k) × Listed left list n
+Inv-loop left list₀ count₀ k₀ list n k = (k ≤ largestNet) × (length list ≡ netEntries) × (n ≡ count (λ m. getD left m false) k) × Listed left list n
 
 abbrev μ-loop : tie.MeasureT-loop
-μ-loop left list₀ count₀ k₀ list n k = 180 - k
+μ-loop left list₀ count₀ k₀ list n k = largestNet - k
 
 loop-holds : tie.Need-loop-holds Inv-loop μ-loop
 loop-holds c = (omega arith, refl, sym (sum-none _), listed-none _ _)
@@ -44,7 +45,7 @@ loop-again c =
 returns : tie.Need-returns Inv-loop μ-loop
 returns c =
     let l = c .before .loop in
-    let e : l .k ≡ 180 = omega arith in
+    let e : l .k ≡ largestNet = omega arith in
     rw (← e, ← l .inv .2) (l .inv .3)
 
 pub list-left-spec : {M : Type 1} → statement M

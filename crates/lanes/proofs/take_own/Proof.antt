@@ -7,6 +7,7 @@ use borrow.Author.Needs.{needs}
 use denote.Ref.{now}
 use lib.ListN.{length, length-set, getD}
 use Rattle.counting.proofs.Sums.{bit-le}
+use Rattle.terms.specs.Limits.{netEntries, largestNet}
 use Rattle.lanes.specs.Placing.{Took}
 use Rattle.lanes.proofs.Placing.{small-net, took-none, took-more}
 use Rattle.lanes.proofs.take_own.Statement.{statement}
@@ -14,7 +15,7 @@ use Rattle.lanes.proofs.take_own.Tie as tie
 
 abbrev Inv-loop : tie.InvT-loop
 Inv-loop own top left₀ spare₀ lanes₀ count₀ i₀ left spare lanes n i =
-    (i ≤ top) × (length left ≡ 181) × (length spare ≡ 181) × Took own left₀ left spare lanes n i
+    (i ≤ top) × (length left ≡ netEntries) × (length spare ≡ netEntries) × Took own left₀ left spare lanes n i
 
 abbrev μ-loop : tie.MeasureT-loop
 μ-loop own top left₀ spare₀ lanes₀ count₀ i₀ left spare lanes n i = top - i
@@ -22,7 +23,7 @@ abbrev μ-loop : tie.MeasureT-loop
 loop-holds : tie.Need-loop-holds Inv-loop μ-loop
 loop-holds c = (omega arith, c .before .pre .3, c .before .pre .4, took-none _ _ _)
 
-small : (c : tie.After-net-at Inv-loop μ-loop) → c .net-at .result ≤ 180
+small : (c : tie.After-net-at Inv-loop μ-loop) → c .net-at .result ≤ largestNet
 small c = omega (arith, c .net-at .ensures, small-net _ (c .before .before .loop .i) (c .before .before .before .before .pre .1))
 
 element-copy-out-taken : tie.Need-element-copy-out-taken Inv-loop μ-loop

@@ -5,6 +5,7 @@ use mathlib.Core.Bool.{false}
 use native.Mathlib.Omega.{arith}
 use borrow.Author.Needs.{needs}
 use lib.ListN.{length, length-set, getD}
+use Rattle.terms.specs.Limits.{largestNet, netEntries}
 use Rattle.switchbox_law.specs.Rules.{alternate}
 use Rattle.lanes.proofs.Wanting.{Turned, turned-more, turn-none, turn-more}
 use Rattle.lanes.proofs.turns.Statement.{statement}
@@ -12,10 +13,10 @@ use Rattle.lanes.proofs.turns.Tie as tie
 
 abbrev Inv-loop : tie.InvT-loop
 Inv-loop pairs first out₀ mine₀ k₀ out mine k =
-    (k ≤ 180) × (length out ≡ 181) × (mine ≡ alternate first (λ m. getD pairs m false) k) × Turned first (λ m. getD pairs m false) out k
+    (k ≤ largestNet) × (length out ≡ netEntries) × (mine ≡ alternate first (λ m. getD pairs m false) k) × Turned first (λ m. getD pairs m false) out k
 
 abbrev μ-loop : tie.MeasureT-loop
-μ-loop pairs first out₀ mine₀ k₀ out mine k = 180 - k
+μ-loop pairs first out₀ mine₀ k₀ out mine k = largestNet - k
 
 loop-holds : tie.Need-loop-holds Inv-loop μ-loop
 loop-holds c = (omega arith, refl, turn-none _ _, λ m l. absurd (omega arith))

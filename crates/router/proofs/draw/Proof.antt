@@ -21,7 +21,10 @@ lay-channel-requires c κs =
     given-channel (s .args .q) (s .pre .0) (s .args .w .0) (s .pre .2) (s .args .wiring .now) (s .pre .3) (c .before .before .before .if2 .taken)
 
 returns-2 : tie.Need-returns-2
-returns-2 c = let s = c .before .before .before .before .before .before .before .before .before .before .before .before .before .before .before in channel-laid (s .args .q) (s .pre .0) (s .args .w .0) (s .pre .2) (c .before .before .before .before .before .before .if2 .taken) (c .before .before .lay-channel .ensures)
+returns-2 c =
+    let c6 = c .before .before .before .before .before .before in
+    let s = c6 .before .before .before .before .before .before .before .before .before in
+    channel-laid (s .args .q) (s .pre .0) (s .args .w .0) (s .pre .2) (c6 .if2 .taken) (c .before .before .lay-channel .ensures)
 
 lay-box-requires : tie.Need-lay-box-requires
 lay-box-requires c κs =
@@ -30,7 +33,10 @@ lay-box-requires c κs =
     (c .before .before .before .before .before .if3 .taken)
 
 returns-3 : tie.Need-returns-3
-returns-3 c = let s = c .before .before .before .before .before .before .before .before .before .before .before .before .before .before .before .before .before .before in box-laid (s .args .q) (s .pre .0) (s .args .w .0) (s .pre .2) (c .before .before .before .before .before .before .before .before .if3 .taken) (c .before .before .lay-box .ensures)
+returns-3 c =
+    let c8 = c .before .before .before .before .before .before .before .before in
+    let s = c8 .before .before .before .before .before .before .before .before .before .before in
+    box-laid (s .args .q) (s .pre .0) (s .args .w .0) (s .pre .2) (c8 .if3 .taken) (c .before .before .lay-box .ensures)
 
 returns-4 : tie.Need-returns-4
 returns-4 c = let s = c .before .before .before .before .before .before .before .before .before .before in absurd

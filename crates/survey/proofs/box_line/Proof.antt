@@ -44,27 +44,33 @@ put-requires c κs = omega (
 
 returns : tie.Need-returns
 returns c =
-    let one = says-adds (c .before .before .before .before .before .before .before .before .before .before .before .before .before .before .before .before .blank .ensures) (c .before .before .before .before .before .before .before .before .before .before .before .before .before .before .field .ensures .0) in
-    let two = says-adds one (c .before .before .before .before .before .before .before .before .before .before .before .before .field2 .ensures .0) in
-    let three = says-adds two (adds-same (text " nets ")
-    (c .before .before .before .before .before .before .before .before .before .before .wide .ensures)
-    (c .before .before .before .before .before .before .before .before .before .field3 .ensures .0)) in
-    let four = says-adds three (c .before .before .before .before .before .before .before .field4 .ensures .0) in
-    let five = says-adds four (c .before .before .before .before .before .field5 .ensures .0) in
-    let six = says-adds five (c .before .before .before .field6 .ensures .0) in
-    let seven = says-adds six (c .before .field7 .ensures .0) in (
+    let f7 = c .before in
+    let f6 = f7 .before .before in
+    let f5 = f6 .before .before in
+    let f4 = f5 .before .before in
+    let f3 = f4 .before .before in
+    let f2 = f3 .before .before .before in
+    let f1 = f2 .before .before in
+    let start = f1 .before .before .blank in
+    let one = says-adds (start .ensures) (f1 .field .ensures .0) in
+    let two = says-adds one (f2 .field2 .ensures .0) in
+    let three = says-adds two (adds-same (text " nets ") (f3 .before .wide .ensures) (f3 .field3 .ensures .0)) in
+    let four = says-adds three (f4 .field4 .ensures .0) in
+    let five = says-adds four (f5 .field5 .ensures .0) in
+    let six = says-adds five (f6 .field6 .ensures .0) in
+    let seven = says-adds six (f7 .field7 .ensures .0) in (
       says-adds seven (c .put .ensures),
       omega (
         arith,
         c .put .ensures .size,
-        c .before .field7 .ensures .1,
-        c .before .before .before .field6 .ensures .1,
-        c .before .before .before .before .before .field5 .ensures .1,
-        c .before .before .before .before .before .before .before .field4 .ensures .1,
-        c .before .before .before .before .before .before .before .before .before .field3 .ensures .1,
-        c .before .before .before .before .before .before .before .before .before .before .before .before .field2 .ensures .1,
-        c .before .before .before .before .before .before .before .before .before .before .before .before .before .before .field .ensures .1,
-        c .before .before .before .before .before .before .before .before .before .before .before .before .before .before .before .before .blank .ensures .size,
+        f7 .field7 .ensures .1,
+        f6 .field6 .ensures .1,
+        f5 .field5 .ensures .1,
+        f4 .field4 .ensures .1,
+        f3 .field3 .ensures .1,
+        f2 .field2 .ensures .1,
+        f1 .field .ensures .1,
+        start .ensures .size,
       ),
     )
 

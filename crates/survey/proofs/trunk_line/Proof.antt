@@ -8,24 +8,28 @@ use Rattle.survey.proofs.trunk_line.Tie as tie
 
 returns : tie.Need-returns
 returns c =
-    let one = says-adds (c .before .before .before .before .before .before .before .before .before .before .before .blank .ensures)
-    (c .before .before .before .before .before .before .before .before .before .before .field .ensures .0) in
-    let two = says-adds one (adds-same (text " nets ") (c .before .before .before .before .before .before .before .before .wide .ensures)
-    (c .before .before .before .before .before .before .before .field2 .ensures .0)) in
-    let three = says-adds two (c .before .before .before .before .before .field3 .ensures .0) in
-    let four = says-adds three (c .before .before .before .field4 .ensures .0) in
-    let five = says-adds four (c .before .field5 .ensures .0) in (
+    let f5 = c .before in
+    let f4 = f5 .before .before in
+    let f3 = f4 .before .before in
+    let f2 = f3 .before .before in
+    let f1 = f2 .before .before .before in
+    let start = f1 .before in
+    let one = says-adds (start .blank .ensures) (f1 .field .ensures .0) in
+    let two = says-adds one (adds-same (text " nets ") (f2 .before .wide .ensures) (f2 .field2 .ensures .0)) in
+    let three = says-adds two (f3 .field3 .ensures .0) in
+    let four = says-adds three (f4 .field4 .ensures .0) in
+    let five = says-adds four (f5 .field5 .ensures .0) in (
       says-adds five (c .put .ensures),
       omega (
         arith,
         c .put .ensures .size,
-        c .before .field5 .ensures .1,
-        c .before .before .before .field4 .ensures .1,
-        c .before .before .before .before .before .field3 .ensures .1,
-        c .before .before .before .before .before .before .before .field2 .ensures .1,
-        c .before .before .before .before .before .before .before .before .before .before .field .ensures .1,
-        c .before .before .before .before .before .before .before .before .before .before .before .blank .ensures .size,
-        c .before .before .before .before .before .before .before .before .before .before .before .before .before .pre,
+        f5 .field5 .ensures .1,
+        f4 .field4 .ensures .1,
+        f3 .field3 .ensures .1,
+        f2 .field2 .ensures .1,
+        f1 .field .ensures .1,
+        start .blank .ensures .size,
+        start .before .before .pre,
       ),
     )
 

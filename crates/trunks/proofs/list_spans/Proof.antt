@@ -4,14 +4,14 @@ use mathlib.Core.Path.{_≡_, _∙_}
 use native.Mathlib.Omega.{arith}
 use borrow.Author.Needs.{needs}
 use lib.ListN.{length, take, length-set}
-use Rattle.trunks.specs.Listing.{pinAt, Listed}
+use Rattle.trunks.specs.Listing.{pinNumber, SpansListed}
 use Rattle.trunks.proofs.Listings.{list-starts, list-skip, list-mark, list-more, stored}
 use Rattle.trunks.proofs.list_spans.Statement.{statement}
 use Rattle.trunks.proofs.list_spans.Tie as tie
 
 abbrev Inv-loop : tie.InvT-loop
 Inv-loop north south n right left₀ spans₀ count₀ pins q₀ left spans count q = (pins ≡ 2 * n) × (q ≤ pins) × (count ≤ q) × (length spans ≡ 180)
-    × Listed (pinAt north south) q left right (take count spans)
+    × SpansListed (pinNumber north south) q left right (take count spans)
 
 abbrev μ-loop : tie.MeasureT-loop
 μ-loop north south n right left₀ spans₀ count₀ pins q₀ left spans count q = pins - q

@@ -3,13 +3,13 @@ use Prim.Native.Nat.{_*_, _≤_, _-_}
 use mathlib.Core.Path.{_≡_, _∙_}
 use native.Mathlib.Omega.{arith}
 use borrow.Author.Needs.{needs}
-use Rattle.trunks.specs.Listing.{pinAt, Rights}
+use Rattle.trunks.specs.Listing.{pinNumber, Rights}
 use Rattle.trunks.proofs.Listings.{right-starts, right-none, right-more}
 use Rattle.trunks.proofs.rights.Statement.{statement}
 use Rattle.trunks.proofs.rights.Tie as tie
 
 abbrev Inv-loop : tie.InvT-loop
-Inv-loop north south n right₀ pins q₀ right q = (pins ≡ 2 * n) × (q ≤ pins) × Rights (pinAt north south) q right
+Inv-loop north south n right₀ pins q₀ right q = (pins ≡ 2 * n) × (q ≤ pins) × Rights (pinNumber north south) q right
 
 abbrev μ-loop : tie.MeasureT-loop
 μ-loop north south n right₀ pins q₀ right q = pins - q

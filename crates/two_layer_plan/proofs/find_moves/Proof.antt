@@ -6,10 +6,10 @@ use denote.Ref.{now}
 use borrow.Author.Needs.{needs}
 use lib.ListN.{length, length-set, getD}
 use Rattle.terms.specs.Limits.{byteValues}
-use Rattle.two_layer_law.specs.Moves.{State, mostMoves}
+use Rattle.two_layer_law.specs.Moves.{MoveState, mostMoves}
 use Rattle.two_layer_cuts.specs.Rows.{item, Row}
-use Rattle.two_layer_plan.specs.Tables.{stateOf, Agree}
-use Rattle.two_layer_plan.proofs.Listing.{held-none}
+use Rattle.two_layer_plan.specs.States.{stateOf, Agree}
+use Rattle.two_layer_gather.proofs.Listing.{held-none}
 use Rattle.two_layer_plan.proofs.Moving.{Moving, moving-none, moving-full, moving-done, moving-more, next-le, near-more}
 use Rattle.two_layer_plan.proofs.find_moves.Statement.{statement}
 use Rattle.two_layer_plan.proofs.find_moves.Tie as tie
@@ -17,7 +17,7 @@ use Rattle.two_layer_plan.proofs.find_moves.Tie as tie
 abbrev Inv-loop : tie.InvT-loop
 Inv-loop goal n made₀ cut₀ at₀ left₀ count₀ made cut at left count =
     (count ≤ mostMoves) × (length at ≡ byteValues) × (left ≤ n) × ((m : ℕ) → getD at m 0 ≤ n)
-    × ((goal′ : ℕ → ℕ) (st : State) → Row n goal′ goal → Agree n st (stateOf cut₀ at₀ 0)
+    × ((goal′ : ℕ → ℕ) (st : MoveState) → Row n goal′ goal → Agree n st (stateOf cut₀ at₀ 0)
     → Moving n goal′ st (made .nets) (made .tos) (made .lows) (made .highs) cut at left count)
 
 abbrev μ-loop : tie.MeasureT-loop

@@ -1,0 +1,5 @@
+pub mod Spots
+pub mod Ageing
+pub mod Settling
+pub mod Fitting
+pub mod Places
