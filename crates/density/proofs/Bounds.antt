@@ -15,7 +15,7 @@ use Rattle.terms.specs.Limits.{largestNet}
 use Rattle.grid.specs.Grid.{Grid, columnOf}
 use Rattle.grid.specs.Legal.{Pins, Wiring, Held, Linked, Legal, GridOf}
 use Rattle.grid.proofs.Pins.{Bare}
-use Rattle.grid.proofs.Motion.{turned, turn, movedPins, movedWiring}
+use Rattle.grid.specs.Motion.{turned, turn, movedPins, movedWiring}
 use Rattle.grid.proofs.Motions.{turn-legal}
 use Rattle.density.specs.Density.{passes, across, up, horizontals, verticals, tracksFor, floor, floorOf}
 use Rattle.density.proofs.Free.{across-free, floor-box}

@@ -10,8 +10,8 @@
 --   past end one two n w c  the same from the other end: on the side past all columns, or at a column past c
 --   Lacks t flags           1 at the nets that do not pass t, and 0 at all else
 --   Ended one two end n w c first second free
---                           from the last column to column c + 1: first and second are 1 where the pin of a side is the last of its net, or 0
---                           where it is empty or not the last; a net that both sides have at its last column is counted on the first
+--                           from the last column to column c + 1: first and second are 1 where the pin of a side is the last of its net,
+--                           or 0 where it is empty or not the last; a net that both sides have at its last column is counted on the first
 use Prim.Native.Nat.{ℕ, suc, _+_, _-_, _≤_, _<_}
 use mathlib.Core.Path.{_≡_}
 use mathlib.Core.Bool.{Bool, false, not, _&&_, _||_}

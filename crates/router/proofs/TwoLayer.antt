@@ -19,10 +19,10 @@ use Rattle.figures.specs.Figures.{figuresOf}
 use Rattle.two_layer_law.specs.Solid.{solid}
 use Rattle.two_layer_law.specs.Cuts.{opTracks}
 use Rattle.two_layer_law.specs.Moves.{solidTest, widthFor}
-use Rattle.two_layer_law.proofs.Channels.{Channel}
+use Rattle.two_layer_law.specs.Channels.{Channel}
 use Rattle.two_layer_law.proofs.Solidity.{solid-test}
 use Rattle.two_layer_law.proofs.Unwired.{unwired}
-use Rattle.two_layer_law.proofs.Gathering.{Several}
+use Rattle.two_layer_law.specs.Channels.{Several}
 use Rattle.two_layer_law.proofs.Planning.{few-tracks}
 use Rattle.two_layer_plan.specs.declared.Plan.{Plan}
 use Rattle.two_layer_plan.specs.Plan.{Planned}

@@ -1,6 +1,6 @@
 -- The tables of counts say how many pins each net has on each side, and so how many nets there are of each corner kind.
 use Prim.Native.Nat.{ℕ, suc, _<_}
-use mathlib.Core.Path.{_≡_, ap, ap₂, subst}
+use mathlib.Core.Path.{_≡_, ap, ap₂, subst, subst₂}
 use mathlib.Core.List.{List}
 use mathlib.Core.Bool.{Bool, _&&_}
 use native.Mathlib.Omega.{arith}
@@ -12,8 +12,9 @@ use Rattle.terms.specs.Kinds.{Side, north, south, west, east}
 use Rattle.terms.specs.Limits.{largestNet}
 use Rattle.grid.specs.Grid.{Grid}
 use Rattle.grid.specs.Legal.{Pins, nets, pinsOf}
+use Rattle.grid.specs.Motion.{Orientation}
 use Rattle.switchbox_law.specs.Rules.{tally, opposite, corner, corners}
-use Rattle.switchbox_law.specs.Drawing.{Mirror, plain, leftRight, topBottom, both, Top}
+use Rattle.switchbox_law.specs.Drawing.{Top}
 use Rattle.lanes.specs.Tables.{Counted}
 use Rattle.switchbox.specs.Box.{cornerAt, standing, Tables, Chosen}
 
@@ -30,11 +31,9 @@ corner-count g p a b la lb lc ld ha hb hc hd =
     (ap₂ (λ (u v : Bool). u && v) (ap₂ (λ (x y : ℕ). ltb 0 x && ltb 0 y) (ha m k) (hb m k)) (ap (λ (x : ℕ). eqb x 0) (hc m k)))
     (ap (λ (x : ℕ). eqb x 0) (hd m k))))
 
-pub top-same : (a b c d a′ b′ c′ d′ : ℕ) (μ : Mirror) → a ≡ a′ → b ≡ b′ → c ≡ c′ → d ≡ d′ → Top a b c d μ → Top a′ b′ c′ d′ μ
-top-same a b c d a′ b′ c′ d′ plain ea eb ec ed h = omega arith
-top-same a b c d a′ b′ c′ d′ leftRight ea eb ec ed h = omega arith
-top-same a b c d a′ b′ c′ d′ topBottom ea eb ec ed h = omega arith
-top-same a b c d a′ b′ c′ d′ both ea eb ec ed h = omega arith
+pub top-same : (a b c d a′ b′ c′ d′ : ℕ) (μ : Orientation) → a ≡ a′ → b ≡ b′ → c ≡ c′ → d ≡ d′ → Top a b c d μ → Top a′ b′ c′ d′ μ
+top-same a b c d a′ b′ c′ d′ μ ea eb ec ed h =
+    subst₂ (λ (x y : ℕ). Top x y c′ d′ μ) ea eb (subst₂ (λ (x y : ℕ). Top a b x y μ) ec ed h)
 
 module _ {a b c d ca cb cc′ cd : List ℕ} (t : Tables a b c d ca cb cc′ cd) where
   pub table-b : Table (standing (length a) (length c)) (pinsOf a b c d) south cb
@@ -43,7 +42,7 @@ module _ {a b c d ca cb cc′ cd : List ℕ} (t : Tables a b c d ca cb cc′ cd)
   pub table-d : Table (standing (length a) (length c)) (pinsOf a b c d) east cd
   table-d = subst (λ (n : ℕ). Counted d n cd) (t .sides .wide) (t .easts) .is
 
-  pub chosen : (μ : Mirror) → Top (nets (cornerAt ca cd cb cc′)) (nets (cornerAt ca cc′ cb cd)) (nets (cornerAt cb cd ca cc′))
+  pub chosen : (μ : Orientation) → Top (nets (cornerAt ca cd cb cc′)) (nets (cornerAt ca cc′ cb cd)) (nets (cornerAt cb cd ca cc′))
       (nets (cornerAt cb cc′ ca cd)) μ
       → Chosen a b c d μ
   chosen μ h =

@@ -11,8 +11,8 @@ use borrow.Rule.Slice.PartMut.{midOf, putMid}
 use Rattle.grid.specs.Legal.{entry, pinsOf}
 use Rattle.terms.specs.Limits.{longestSide}
 use Rattle.paint.proofs.Laws.{mid-size}
-use Rattle.switchbox_law.specs.Drawing.{BoxDrawing}
-use Rattle.switchbox_law.proofs.FullLines.{fullLines, drawn}
+use Rattle.switchbox_law.specs.Drawing.{BoxDrawing, fullLines}
+use Rattle.switchbox_law.proofs.FullLines.{drawn}
 use Rattle.switchbox.specs.Layers.{StripedAs, DrawnAs, trackLines, boxLines, Drawable}
 use Rattle.switchbox.proofs.Layers.{drawn-as-same, drawn-as-next, drawn-as-long}
 

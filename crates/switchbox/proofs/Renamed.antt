@@ -1,9 +1,10 @@
--- A box with n ≥ w whose sides are renamed as the chosen mirror image has them is canonical, and when it is laid, the wiring is legal for the box as it was.
+-- A box with n ≥ w whose sides are renamed as the chosen mirror image has them is canonical, and when it is laid, the wiring is legal
+-- for the box as it was.
 use Prim.Native.Nat.{ℕ, zero, suc, _*_, _≤_}
 use mathlib.Core.Path.{_≡_, refl, sym, ap, subst, subst₂, _∙_, fun-ext}
 use mathlib.Core.Logic.{_≢_}
 use mathlib.Core.List.{List}
-use mathlib.Core.Bool.{Bool}
+use mathlib.Core.Bool.{Bool, true, false}
 use native.Mathlib.Omega.{arith}
 use native.Mathlib.Decide.{decLe}
 use lib.ListN.{length}
@@ -13,14 +14,14 @@ use Rattle.terms.specs.Kinds.{Side, north, south, west, east}
 use Rattle.grid.specs.Grid.{places}
 use Rattle.grid.specs.Legal.{Pins, entry, pinsOf}
 use Rattle.grid.proofs.Pins.{Numbered}
-use Rattle.switchbox_law.specs.Drawing.{BoxLaid, Mirror, plain, leftRight, topBottom, both}
+use Rattle.switchbox_law.specs.Drawing.{BoxLaid, mirror}
 use Rattle.switchbox_law.proofs.Mirrors.{seen}
 use Rattle.switchbox_law.proofs.Renaming.{renamed, renamed-legal, most-renamed}
 use Rattle.lanes.specs.Tables.{Nets, Counted}
 use Rattle.switchbox.specs.Box.{mirrorOf, Sides, standing, Tables, Upright, Canonical, Chosen}
 use Rattle.switchbox.specs.Layers.{LaidAs, Wired}
 
-pub last-mirror : (m : ℕ) → m ≢ 0 → m ≢ 1 → m ≢ 2 → mirrorOf m ≡ both
+pub last-mirror : (m : ℕ) → m ≢ 0 → m ≢ 1 → m ≢ 2 → mirrorOf m ≡ mirror true true
 last-mirror zero a b c = absurd (a refl)
 last-mirror (suc zero) a b c = absurd (b refl)
 last-mirror (suc (suc zero)) a b c = absurd (c refl)
@@ -41,16 +42,17 @@ module _ (a b c d : List ℕ) where
   pin-by east = refl
 
   -- the pins of the renamed sides
-  pins-renamed : (μ : Mirror)
-      → pinsOf (by a b c d (seen μ north)) (by a b c d (seen μ south)) (by a b c d (seen μ west)) (by a b c d (seen μ east)) ≡ renamed μ (pinsOf a b c d)
-  pins-renamed μ = fun-ext go
+  pins-renamed : (φ ψ : Bool)
+      → pinsOf (by a b c d (seen φ ψ north)) (by a b c d (seen φ ψ south)) (by a b c d (seen φ ψ west)) (by a b c d (seen φ ψ east))
+      ≡ renamed φ ψ (pinsOf a b c d)
+  pins-renamed φ ψ = fun-ext go
     where
-      go : (s : Side) → pinsOf (by a b c d (seen μ north)) (by a b c d (seen μ south)) (by a b c d (seen μ west)) (by a b c d (seen μ east)) s
-          ≡ pinsOf a b c d (seen μ s)
-      go north = sym (pin-by (seen μ north))
-      go south = sym (pin-by (seen μ south))
-      go west = sym (pin-by (seen μ west))
-      go east = sym (pin-by (seen μ east))
+      go : (s : Side) → pinsOf (by a b c d (seen φ ψ north)) (by a b c d (seen φ ψ south)) (by a b c d (seen φ ψ west)) (by a b c d (seen φ ψ east)) s
+          ≡ pinsOf a b c d (seen φ ψ s)
+      go north = sym (pin-by (seen φ ψ north))
+      go south = sym (pin-by (seen φ ψ south))
+      go west = sym (pin-by (seen φ ψ west))
+      go east = sym (pin-by (seen φ ψ east))
 
 module _ {a b c d : List ℕ} (sides : Sides a b c d) where
   nets-by : (s : Side) → Nets (by a b c d s)
@@ -60,17 +62,13 @@ module _ {a b c d : List ℕ} (sides : Sides a b c d) where
   nets-by east = sides .easts
 
   -- renamed sides are as long
-  long-by : (μ : Mirror) → (length (by a b c d (seen μ north)) ≡ length a) × (length (by a b c d (seen μ south)) ≡ length a)
-  long-by plain = (refl, sides .long)
-  long-by leftRight = (refl, sides .long)
-  long-by topBottom = (sides .long, refl)
-  long-by both = (sides .long, refl)
+  long-by : (φ ψ : Bool) → (length (by a b c d (seen φ ψ north)) ≡ length a) × (length (by a b c d (seen φ ψ south)) ≡ length a)
+  long-by φ false = (refl, sides .long)
+  long-by φ true = (sides .long, refl)
 
-  wide-by : (μ : Mirror) → (length (by a b c d (seen μ west)) ≡ length c) × (length (by a b c d (seen μ east)) ≡ length c)
-  wide-by plain = (refl, sides .wide)
-  wide-by leftRight = (sides .wide, refl)
-  wide-by topBottom = (refl, sides .wide)
-  wide-by both = (sides .wide, refl)
+  wide-by : (φ ψ : Bool) → (length (by a b c d (seen φ ψ west)) ≡ length c) × (length (by a b c d (seen φ ψ east)) ≡ length c)
+  wide-by false ψ = (refl, sides .wide)
+  wide-by true ψ = (sides .wide, refl)
 
   numbered : Numbered (standing (length a) (length c)) (pinsOf a b c d)
   numbered s zero i = absurd (none s i)
@@ -85,32 +83,32 @@ module _ {a b c d : List ℕ} (sides : Sides a b c d) where
   numbered west (suc j) h = sides .wests .small j (omega arith)
   numbered east (suc j) h = sides .easts .small j (omega (arith, sides .wide))
 
-module _ {a b c d before : List ℕ} (up : Upright a b c d before) (μ : Mirror) where
-  pub canonical-renamed : {ca cb cc′ cd : List ℕ} → Tables a b c d ca cb cc′ cd → Chosen a b c d μ
-      → Canonical (by a b c d (seen μ north)) (by a b c d (seen μ south)) (by a b c d (seen μ west)) (by a b c d (seen μ east))
-      (by ca cb cc′ cd (seen μ north)) (by ca cb cc′ cd (seen μ south)) (by ca cb cc′ cd (seen μ west)) (by ca cb cc′ cd (seen μ east)) before
+module _ {a b c d before : List ℕ} (up : Upright a b c d before) (φ ψ : Bool) where
+  pub canonical-renamed : {ca cb cc′ cd : List ℕ} → Tables a b c d ca cb cc′ cd → Chosen a b c d (mirror φ ψ)
+      → Canonical (by a b c d (seen φ ψ north)) (by a b c d (seen φ ψ south)) (by a b c d (seen φ ψ west)) (by a b c d (seen φ ψ east))
+      (by ca cb cc′ cd (seen φ ψ north)) (by ca cb cc′ cd (seen φ ψ south)) (by ca cb cc′ cd (seen φ ψ west)) (by ca cb cc′ cd (seen φ ψ east)) before
   canonical-renamed {ca} {cb} {cc′} {cd} t h =
-      let n = long-by (up .sides) μ in
-      let w = wide-by (up .sides) μ in
+      let n = long-by (up .sides) φ ψ in
+      let w = wide-by (up .sides) φ ψ in
       record {
         tables = record {
           sides = record {
-            norths = nets-by (up .sides) (seen μ north);
-            souths = nets-by (up .sides) (seen μ south);
-            wests = nets-by (up .sides) (seen μ west);
-            easts = nets-by (up .sides) (seen μ east);
+            norths = nets-by (up .sides) (seen φ ψ north);
+            souths = nets-by (up .sides) (seen φ ψ south);
+            wests = nets-by (up .sides) (seen φ ψ west);
+            easts = nets-by (up .sides) (seen φ ψ east);
             long = n .1 ∙ sym (n .0);
             wide = w .1 ∙ sym (w .0);
           };
-          norths = counted-by (seen μ north);
-          souths = counted-by (seen μ south);
-          wests = counted-by (seen μ west);
-          easts = counted-by (seen μ east);
+          norths = counted-by (seen φ ψ north);
+          souths = counted-by (seen φ ψ south);
+          wests = counted-by (seen φ ψ west);
+          easts = counted-by (seen φ ψ east);
         };
         narrow = rw (w .0) (up .narrow);
         oblong = rw (n .0, w .0) (up .oblong);
         room = rw (n .0, w .0) (up .room);
-        corner = rw (n .0, w .0, pins-renamed a b c d μ) (most-renamed (standing (length a) (length c)) (pinsOf a b c d) μ h);
+        corner = rw (n .0, w .0, pins-renamed a b c d φ ψ) (most-renamed (standing (length a) (length c)) (pinsOf a b c d) φ ψ h);
       }
     where
       counted-by : (s : Side) → Counted (by a b c d s) (length (by a b c d s)) (by ca cb cc′ cd s)
@@ -120,13 +118,13 @@ module _ {a b c d before : List ℕ} (up : Upright a b c d before) (μ : Mirror)
       counted-by east = t .easts
 
   pub wired-renamed : {turned : Bool} {after : List ℕ}
-      → LaidAs turned (length (by a b c d (seen μ north))) (length (by a b c d (seen μ west)))
-      (by a b c d (seen μ north)) (by a b c d (seen μ south)) (by a b c d (seen μ west)) (by a b c d (seen μ east)) before after
+      → LaidAs turned (length (by a b c d (seen φ ψ north))) (length (by a b c d (seen φ ψ west)))
+      (by a b c d (seen φ ψ north)) (by a b c d (seen φ ψ south)) (by a b c d (seen φ ψ west)) (by a b c d (seen φ ψ east)) before after
       → Wired turned a b c d before after
   wired-renamed {turned} {after} l =
       go (subst₂ (λ (x y : ℕ).
-      LaidAs turned x y (by a b c d (seen μ north)) (by a b c d (seen μ south)) (by a b c d (seen μ west)) (by a b c d (seen μ east)) before after)
-      (long-by (up .sides) μ .0) (wide-by (up .sides) μ .0) l)
+      LaidAs turned x y (by a b c d (seen φ ψ north)) (by a b c d (seen φ ψ south)) (by a b c d (seen φ ψ west)) (by a b c d (seen φ ψ east)) before after)
+      (long-by (up .sides) φ ψ .0) (wide-by (up .sides) φ ψ .0) l)
     where
       some-layer : 1 ≤ ceil (length a) (length c)
       some-layer = elim (decLe 1 (ceil (length a) (length c))) [
@@ -135,13 +133,13 @@ module _ {a b c d before : List ℕ} (up : Upright a b c d before) (μ : Mirror)
             absurd (omega (arith, round-up (length a) (length c) (up .narrow), ap (λ (v : ℕ). v * length c) z, up .narrow, up .oblong))
       ]
 
-      go : LaidAs turned (length a) (length c) (by a b c d (seen μ north)) (by a b c d (seen μ south)) (by a b c d (seen μ west))
-          (by a b c d (seen μ east)) before after
+      go : LaidAs turned (length a) (length c) (by a b c d (seen φ ψ north)) (by a b c d (seen φ ψ south)) (by a b c d (seen φ ψ west))
+          (by a b c d (seen φ ψ east)) before after
           → Wired turned a b c d before after
       go l = record {
         wiring = l .wiring;
-        legal = renamed-legal (omega (arith, up .narrow, up .oblong)) (up .narrow) some-layer (numbered (up .sides)) μ
+        legal = renamed-legal (omega (arith, up .narrow, up .oblong)) (up .narrow) some-layer (numbered (up .sides)) φ ψ
             (subst (λ (p : Pins). BoxLaid (length a) (length c) (ceil (length a) (length c)) p (l .wiring) (l .tracks) (l .columns))
-            (pins-renamed a b c d μ) (l .laid));
+            (pins-renamed a b c d φ ψ) (l .laid));
         drawn = l .drawn;
       }

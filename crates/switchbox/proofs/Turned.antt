@@ -14,8 +14,8 @@ use Rattle.terms.specs.Kinds.{Side, north, south, west, east}
 use Rattle.terms.specs.Limits.{largestNet, longestSide}
 use Rattle.grid.specs.Grid.{upright, lying, Node, pin, point, places, Inside}
 use Rattle.grid.specs.Legal.{Wiring, holds, Legal, entry, wiringOf, pinsOf}
-use Rattle.grid.proofs.Motion.{turn, movedPins}
-use Rattle.grid.proofs.Motions.{legal-same, moved-back, turn-over, turn-back}
+use Rattle.grid.specs.Motion.{movedPins, image}
+use Rattle.grid.proofs.Motions.{oriented, restored, quarter, moved-back, legal-same}
 use Rattle.paint.specs.Paint.{Drawn}
 use Rattle.grid.specs.Laid.{Laid}
 use Rattle.paint.proofs.Laws.{drawn-wiring}
@@ -133,11 +133,11 @@ module _ {ns ss ws es before : List ℕ} {n w : ℕ} (box : BoxPins ns ss ws es 
       let (legal, d) = sized true long-e long-s l in
       let g = lying n w (2 * ceil w n + 4) in
       let p = pinsOf (take n ns) (take n ss) (take w ws) (take w es) in
-      wired-as true ns ss ws es n w (layers-wide n w h) (lt-ltb n w h) (moved-back (turn-over g) (turn-back g) p (l .wiring) (legal-same same legal))
-      (d .is)
+      wired-as true ns ss ws es n w (layers-wide n w h) (lt-ltb n w h)
+      (moved-back (restored quarter g) (oriented quarter g) p (l .wiring) (legal-same same legal)) (d .is)
     where
       same : (u : Node) → Inside (standing w n) u
-          → holds (movedPins turn (pinsOf (take n ns) (take n ss) (take w ws) (take w es))) (l .wiring) u
+          → holds (movedPins (image quarter (lying n w (2 * ceil w n + 4))) (pinsOf (take n ns) (take n ss) (take w ws) (take w es))) (l .wiring) u
           ≡ holds (pinsOf (take w es) (take w ws) (take n ss) (take n ns)) (l .wiring) u
       same (pin north a) i = refl
       same (pin south a) i = refl

@@ -11,25 +11,26 @@
 use Prim.Native.Nat.{ℕ, zero, suc, _+_, _*_, _≤_}
 use mathlib.Core.Path.{_≡_}
 use mathlib.Core.List.{List}
-use mathlib.Core.Bool.{Bool, _&&_}
+use mathlib.Core.Bool.{Bool, true, false, _&&_}
 use lib.Dec.{ltb, eqb}
 use lib.ListN.{length, getD}
 use Rattle.counting.specs.Counting.{ceil}
 use Rattle.terms.specs.Kinds.{north, south, west, east}
 use Rattle.grid.specs.Grid.{Grid, upright}
 use Rattle.grid.specs.Legal.{pinsOf}
+use Rattle.grid.specs.Motion.{Orientation}
 use Rattle.switchbox_law.specs.Rules.{corners, MostNorthEast}
-use Rattle.switchbox_law.specs.Drawing.{Mirror, plain, leftRight, topBottom, both, Top}
+use Rattle.switchbox_law.specs.Drawing.{mirror, Top}
 use Rattle.lanes.specs.Tables.{Nets, Counted}
 
 abbrev pub cornerAt : List ℕ → List ℕ → List ℕ → List ℕ → ℕ → Bool
 cornerAt a b c d m = ltb 0 (getD a m 0) && ltb 0 (getD b m 0) && eqb (getD c m 0) 0 && eqb (getD d m 0) 0
 
-abbrev pub mirrorOf : ℕ → Mirror
-mirrorOf zero = plain
-mirrorOf (suc zero) = leftRight
-mirrorOf (suc (suc zero)) = topBottom
-mirrorOf (suc (suc (suc m))) = both
+abbrev pub mirrorOf : ℕ → Orientation
+mirrorOf zero = mirror false false
+mirrorOf (suc zero) = mirror true false
+mirrorOf (suc (suc zero)) = mirror false true
+mirrorOf (suc (suc (suc m))) = mirror true true
 
 pub record Sides (a b c d : List ℕ) : Type 0 where
   pub norths : Nets a
@@ -62,7 +63,7 @@ pub record Canonical (a b c d ca cb cc cd wiring : List ℕ) : Type 0 where
   pub room : (2 * ceil (length a) (length c) + 4) * (length a * length c) ≤ length wiring
   pub corner : MostNorthEast (standing (length a) (length c)) (pinsOf a b c d)
 
-abbrev pub Chosen : List ℕ → List ℕ → List ℕ → List ℕ → Mirror → Type 0
+abbrev pub Chosen : List ℕ → List ℕ → List ℕ → List ℕ → Orientation → Type 0
 Chosen a b c d μ =
     let g = standing (length a) (length c) in
     let p = pinsOf a b c d in

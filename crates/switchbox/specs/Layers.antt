@@ -17,8 +17,7 @@ use lib.ListN.{length}
 use Rattle.grid.specs.Legal.{Wiring, Legal, entry, pinsOf}
 use Rattle.terms.specs.Limits.{longestSide}
 use Rattle.counting.specs.Counting.{ceil}
-use Rattle.switchbox_law.specs.Drawing.{BoxLaid}
-use Rattle.switchbox_law.proofs.FullLines.{fullLines}
+use Rattle.switchbox_law.specs.Drawing.{BoxLaid, fullLines}
 use Rattle.switchbox.specs.Box.{standing}
 use Rattle.paint.specs.Paint.{Striped, Drawn}
 

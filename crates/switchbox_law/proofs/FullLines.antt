@@ -1,19 +1,10 @@
--- The drawing of a box as a function: full lines on every layer.
-use Prim.Native.Nat.{ℕ, _+_, _*_, _-_, _/_, _%_}
+-- The wiring of full lines on every layer is a drawing of the box.
+use Prim.Native.Nat.{ℕ, _+_, _*_, _%_}
 use mathlib.Core.Path.{refl}
-use mathlib.Core.Bool.{cond}
 use native.Mathlib.Omega.{arith}
-use lib.Dec.{eqb, leb}
 use borrow.Author.Tests.{eq-eqb, ne-eqb, le-leb, lt-leb}
-use Rattle.terms.specs.Kinds.{north, south, west, east}
-use Rattle.grid.specs.Legal.{Pins, Wiring}
-use Rattle.switchbox_law.specs.Drawing.{BoxDrawing}
-
-unfoldable pub fullLines : ℕ → ℕ → Pins → (ℕ → ℕ) → (ℕ → ℕ) → Wiring
-fullLines w q p tracks columns i j l =
-    cond (leb l (2 * q + 1))
-    (cond (eqb (l % 2) 0) (tracks ((l / 2 - 1) * w + j)) (cond (eqb ((l + 2 * q) % 4) 1) (p north i) (p south i)))
-    (cond (eqb l (2 * q + 2)) (p east j) (cond (eqb l (2 * q + 3)) (columns i) (p west j)))
+use Rattle.grid.specs.Legal.{Pins}
+use Rattle.switchbox_law.specs.Drawing.{BoxDrawing, fullLines}
 
 pub drawn : (n w q : ℕ) (p : Pins) (tracks columns : ℕ → ℕ) → BoxDrawing n w q p (fullLines w q p tracks columns) tracks columns
 unfolding fullLines

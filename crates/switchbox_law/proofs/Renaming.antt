@@ -1,8 +1,8 @@
--- A box may be laid with its sides renamed and no place reversed: what is drawn are full lines, so that the mirror image of such a drawing is a drawing of the
--- mirror image, with its lanes in reverse order.
+-- A box may be laid with its sides renamed and no place reversed: what is drawn are full lines, so that the mirror image of such a
+-- drawing is a drawing of the mirror image, with its lanes in reverse order.
 use Prim.Native.Nat.{ℕ, _+_, _*_, _-_, _/_, _%_, _≤_, _<_}
 use mathlib.Core.Path.{_≡_, refl, sym, ap, ap₂, subst, _∙_, fun-ext}
-use mathlib.Core.Bool.{Bool}
+use mathlib.Core.Bool.{Bool, true, false}
 use native.Mathlib.Omega.{arith}
 use native.Mathlib.Nat.{div-add-mod', mod-lt, div-lt-iff-lt-mul, mul-le-mul-right, suc-mul}
 use lib.Arith.{digits-div, digits-mod}
@@ -11,11 +11,11 @@ use Rattle.terms.specs.Kinds.{Side, north, south, west, east}
 use Rattle.grid.specs.Grid.{Grid, upright, Node, pin, point, Inside}
 use Rattle.grid.specs.Legal.{Pins, Wiring, holds, Legal, nets}
 use Rattle.grid.proofs.Pins.{Numbered}
-use Rattle.grid.proofs.Motion.{movedWiring}
-use Rattle.grid.proofs.Motions.{legal-same}
+use Rattle.grid.specs.Motion.{movedWiring}
+use Rattle.grid.proofs.Motions.{back, legal-same}
 use Rattle.switchbox_law.specs.Rules.{Tally, tally, corner, needsTrack, needsColumn, corners, MostNorthEast}
-use Rattle.switchbox_law.specs.Drawing.{Lanes, BoxDrawing, BoxLaid, Mirror, plain, leftRight, topBottom, both, image, mirrored, Top}
-use Rattle.switchbox_law.proofs.Mirrors.{seen, mirror-tally, top-most}
+use Rattle.switchbox_law.specs.Drawing.{Lanes, BoxDrawing, BoxLaid, mirror, Top}
+use Rattle.switchbox_law.proofs.Mirrors.{mirrored, seen, mirror-tally, top-most}
 use Rattle.switchbox_law.proofs.Legality.{mirrored-legal}
 
 -- f takes 1 to n to themselves, and is its own inverse there: it reverses them, or leaves them
@@ -107,64 +107,60 @@ module _ {n w q : ℕ} {p p′ : Pins} {x : Wiring} {tracks columns : ℕ → �
         again = λ j hj. ap (lane w h) (in-first j hj) ∙ in-first (h j) (rh .inside j hj) ∙ rh .again j hj;
       }
 
--- ---- the sides renamed as the mirror image μ has them
+-- ---- the sides renamed as the mirror image has them
 
 -- at each side the pins of the side that is seen there
-abbrev pub renamed : Mirror → Pins → Pins
-renamed μ p s = p (seen μ s)
+abbrev pub renamed : Bool → Bool → Pins → Pins
+renamed φ ψ p s = p (seen φ ψ s)
 
-pub renamed-tally : (μ : Mirror) (g : Grid) (p : Pins) (m : ℕ) (s : Side) → tally g (renamed μ p) m s ≡ tally g p m (seen μ s)
-renamed-tally plain g p m s = refl
-renamed-tally leftRight g p m north = refl
-renamed-tally leftRight g p m south = refl
-renamed-tally leftRight g p m west = refl
-renamed-tally leftRight g p m east = refl
-renamed-tally topBottom g p m north = refl
-renamed-tally topBottom g p m south = refl
-renamed-tally topBottom g p m west = refl
-renamed-tally topBottom g p m east = refl
-renamed-tally both g p m north = refl
-renamed-tally both g p m south = refl
-renamed-tally both g p m west = refl
-renamed-tally both g p m east = refl
+pub renamed-tally : (φ ψ : Bool) (g : Grid) (p : Pins) (m : ℕ) (s : Side) → tally g (renamed φ ψ p) m s ≡ tally g p m (seen φ ψ s)
+renamed-tally φ false g p m north = refl
+renamed-tally φ true g p m north = refl
+renamed-tally φ false g p m south = refl
+renamed-tally φ true g p m south = refl
+renamed-tally false ψ g p m west = refl
+renamed-tally true ψ g p m west = refl
+renamed-tally false ψ g p m east = refl
+renamed-tally true ψ g p m east = refl
 
-pub same-tally : (μ : Mirror) (g : Grid) (p : Pins) → tally g (renamed μ p) ≡ tally g (mirrored μ g p)
-same-tally μ g p = fun-ext (λ m. fun-ext (λ s. renamed-tally μ g p m s ∙ sym (mirror-tally μ g p m s)))
+pub same-tally : (φ ψ : Bool) (g : Grid) (p : Pins) → tally g (renamed φ ψ p) ≡ tally g (mirrored φ ψ g p)
+same-tally φ ψ g p = fun-ext (λ m. fun-ext (λ s. renamed-tally φ ψ g p m s ∙ sym (mirror-tally φ ψ g p m s)))
 
 module _ {n w q : ℕ} {p : Pins} {x : Wiring} {tracks columns : ℕ → ℕ} (hn : 1 ≤ n) (hw : 1 ≤ w) (hq : 1 ≤ q)
     (few : Numbered (upright n w (2 * q + 4)) p) where
   -- laid with the sides renamed: then so is the mirror image, which is mirrored back
-  by-flips : (μ : Mirror) {f h : ℕ → ℕ} → Flip n f → Flip w h
-      → ((i : ℕ) → mirrored μ (upright n w (2 * q + 4)) p north i ≡ renamed μ p north (f i))
-      → ((i : ℕ) → mirrored μ (upright n w (2 * q + 4)) p south i ≡ renamed μ p south (f i))
-      → ((j : ℕ) → mirrored μ (upright n w (2 * q + 4)) p west j ≡ renamed μ p west (h j))
-      → ((j : ℕ) → mirrored μ (upright n w (2 * q + 4)) p east j ≡ renamed μ p east (h j))
-      → ((y : Wiring) (i j l : ℕ) → movedWiring (image μ (upright n w (2 * q + 4))) y i j l ≡ y (f i) (h j) l)
-      → BoxLaid n w q (renamed μ p) x tracks columns → Legal (upright n w (2 * q + 4)) p x
-  by-flips μ {f} {h} rf rh ns ss ws es moved d =
+  by-flips : (φ ψ : Bool) {f h : ℕ → ℕ} → Flip n f → Flip w h
+      → ((i : ℕ) → mirrored φ ψ (upright n w (2 * q + 4)) p north i ≡ renamed φ ψ p north (f i))
+      → ((i : ℕ) → mirrored φ ψ (upright n w (2 * q + 4)) p south i ≡ renamed φ ψ p south (f i))
+      → ((j : ℕ) → mirrored φ ψ (upright n w (2 * q + 4)) p west j ≡ renamed φ ψ p west (h j))
+      → ((j : ℕ) → mirrored φ ψ (upright n w (2 * q + 4)) p east j ≡ renamed φ ψ p east (h j))
+      → ((y : Wiring) (i j l : ℕ) → movedWiring (back (mirror φ ψ) (upright n w (2 * q + 4))) y i j l ≡ y (f i) (h j) l)
+      → BoxLaid n w q (renamed φ ψ p) x tracks columns → Legal (upright n w (2 * q + 4)) p x
+  by-flips φ ψ {f} {h} rf rh ns ss ws es moved d =
       let g = upright n w (2 * q + 4) in
-      legal-same twice (mirrored-legal hn hw hq μ few (laid-flip hw hq rf rh ns ss ws es (same-tally μ g p) d))
+      legal-same twice (mirrored-legal hn hw hq φ ψ few (laid-flip hw hq rf rh ns ss ws es (same-tally φ ψ g p) d))
     where
       twice : (u : Node) → Inside (upright n w (2 * q + 4)) u
-          → holds p x u ≡ holds p (movedWiring (image μ (upright n w (2 * q + 4))) (λ i j l. x (f i) (h j) l)) u
+          → holds p x u ≡ holds p (movedWiring (back (mirror φ ψ) (upright n w (2 * q + 4))) (λ i j l. x (f i) (h j) l)) u
       twice (pin s a) k = refl
       twice (point i j l) k =
           ap₂ (λ (a b : ℕ). x a b l) (sym (rf .again i (k .0))) (sym (rh .again j (k .1))) ∙ sym (moved (λ i j l. x (f i) (h j) l) i j l)
 
-  pub renamed-legal : (μ : Mirror) → BoxLaid n w q (renamed μ p) x tracks columns → Legal (upright n w (2 * q + 4)) p x
-  renamed-legal plain = by-flips plain (kept n) (kept w) (λ i. refl) (λ i. refl) (λ j. refl) (λ j. refl) (λ y i j l. refl)
-  renamed-legal leftRight = by-flips leftRight (reversed n) (kept w) (λ i. refl) (λ i. refl) (λ j. refl) (λ j. refl) (λ y i j l. refl)
-  renamed-legal topBottom = by-flips topBottom (kept n) (reversed w) (λ i. refl) (λ i. refl) (λ j. refl) (λ j. refl) (λ y i j l. refl)
-  renamed-legal both = by-flips both (reversed n) (reversed w) (λ i. refl) (λ i. refl) (λ j. refl) (λ j. refl) (λ y i j l. refl)
+  pub renamed-legal : (φ ψ : Bool) → BoxLaid n w q (renamed φ ψ p) x tracks columns → Legal (upright n w (2 * q + 4)) p x
+  renamed-legal false false = by-flips false false (kept n) (kept w) (λ i. refl) (λ i. refl) (λ j. refl) (λ j. refl) (λ y i j l. refl)
+  renamed-legal true false = by-flips true false (reversed n) (kept w) (λ i. refl) (λ i. refl) (λ j. refl) (λ j. refl) (λ y i j l. refl)
+  renamed-legal false true = by-flips false true (kept n) (reversed w) (λ i. refl) (λ i. refl) (λ j. refl) (λ j. refl) (λ y i j l. refl)
+  renamed-legal true true = by-flips true true (reversed n) (reversed w) (λ i. refl) (λ i. refl) (λ j. refl) (λ j. refl) (λ y i j l. refl)
 
--- the corner kind that the mirror image μ has at north and east is the most numerous: so it is where the sides are renamed
-pub most-renamed : (g : Grid) (p : Pins) (μ : Mirror)
-    → Top (corners g p north east) (corners g p north west) (corners g p south east) (corners g p south west) μ → MostNorthEast g (renamed μ p)
-most-renamed g p μ h = let k = top-most g p μ h in record {
+-- the corner kind that the mirror back (mirror φ ψ) has at north and east is the most numerous: so it is where the sides are renamed
+pub most-renamed : (g : Grid) (p : Pins) (φ ψ : Bool)
+    → Top (corners g p north east) (corners g p north west) (corners g p south east) (corners g p south west) (mirror φ ψ)
+    → MostNorthEast g (renamed φ ψ p)
+most-renamed g p φ ψ h = let k = top-most φ ψ g p h in record {
   nw = omega (arith, k .nw, same north west, same north east);
   se = omega (arith, k .se, same south east, same north east);
   sw = omega (arith, k .sw, same south west, same north east);
 }
   where
-    same : (a b : Side) → corners g (renamed μ p) a b ≡ corners g (mirrored μ g p) a b
-    same a b = ap (λ (t : ℕ → Tally). nets (λ m. corner a b (t m))) (same-tally μ g p)
+    same : (a b : Side) → corners g (renamed φ ψ p) a b ≡ corners g (mirrored φ ψ g p) a b
+    same a b = ap (λ (t : ℕ → Tally). nets (λ m. corner a b (t m))) (same-tally φ ψ g p)

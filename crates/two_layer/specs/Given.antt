@@ -11,8 +11,7 @@ use mathlib.Core.List.{List}
 use Rattle.terms.specs.Limits.{largestNet}
 use Rattle.grid.specs.Legal.{entry, columnPins}
 use Rattle.two_layer_law.specs.Cuts.{Ops, followed}
-use Rattle.two_layer_law.proofs.Channels.{Channel}
-use Rattle.two_layer_law.proofs.Gathering.{Several}
+use Rattle.two_layer_law.specs.Channels.{Channel, Several}
 use Rattle.two_layer_cuts.specs.Rows.{opsOf}
 use Rattle.two_layer_plan.specs.declared.Plan.{Plan}
 use Rattle.two_layer_plan.specs.Plan.{Planned}

@@ -13,12 +13,9 @@ use Rattle.counting.proofs.Sums.{split, bit-one, bit-zero, sum-two, sum-some}
 use Rattle.counting.proofs.Counts.{some-of}
 use Rattle.counting.proofs.Leasts.{least-in, least-before}
 use Rattle.terms.specs.Limits.{largestNet}
+use Rattle.two_layer_law.specs.Channels.{Several}
 use Rattle.two_layer_law.specs.Cuts.{Ops, cutOf, rowOf, Runs}
 use Rattle.two_layer_law.specs.Moves.{firstOn, lastOn, heldOn, leads, several, Gathered}
-
--- a net of side a has another pin, on side a or on side b
-pub record Several (n : ℕ) (a b : ℕ → ℕ) : Type 0 where
-  pub again : (c : ℕ) → In c n → a c ≢ 0 → ((d : ℕ) × In d n × (d ≢ c) × (a d ≡ a c)) ⊎ ((d : ℕ) × In d n × (b d ≡ a c))
 
 -- ---- the columns of a net on side a
 

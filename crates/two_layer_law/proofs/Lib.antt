@@ -1,4 +1,3 @@
-pub mod Channels
 pub mod Solidity
 pub mod Unwired
 pub mod Tracks

@@ -32,12 +32,11 @@ use Rattle.two_layer_law.specs.Moves.{
   moves,
   widthFor,
 }
-use Rattle.two_layer_law.proofs.Channels.{Channel}
+use Rattle.two_layer_law.specs.Channels.{Channel, Several}
 use Rattle.counting.proofs.Tests.{every-of, no-second}
 use Rattle.two_layer_law.proofs.OneMove.{Movable}
 use Rattle.two_layer_law.proofs.Moving.{Brought, moving}
 use Rattle.two_layer_law.proofs.Gathering.{
-  Several,
   first-found,
   twice,
   pin-of,

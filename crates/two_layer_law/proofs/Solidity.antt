@@ -18,7 +18,7 @@ use Rattle.grid.proofs.Pins.{Bare}
 use Rattle.problem.specs.Problem.{pinCountOn, pinCount}
 use Rattle.two_layer_law.specs.Solid.{filled, paired, crooked, solid}
 use Rattle.two_layer_law.specs.Moves.{firstOn, heldOn, leads, solidTest}
-use Rattle.two_layer_law.proofs.Channels.{Channel}
+use Rattle.two_layer_law.specs.Channels.{Channel}
 use Rattle.counting.proofs.Leasts.{least-first}
 use Rattle.counting.proofs.Tests.{every-both, every-of, count-once}
 

@@ -16,7 +16,7 @@ use Rattle.grid.specs.Grid.{Edge, along-column, along-track, via, north-pin, so
 use Rattle.grid.specs.Legal.{Pins, Wiring, Held, Legal}
 use Rattle.density.proofs.Crossing.{border}
 use Rattle.two_layer_law.specs.Solid.{solid}
-use Rattle.two_layer_law.proofs.Channels.{Channel}
+use Rattle.two_layer_law.specs.Channels.{Channel}
 use Rattle.counting.proofs.Tests.{no-second}
 use Rattle.two_layer_law.proofs.Solidity.{Solid, solid-in}
 

@@ -1,3 +1,4 @@
 pub mod Solid
+pub mod Channels
 pub mod Cuts
 pub mod Moves
