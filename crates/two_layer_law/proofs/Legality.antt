@@ -1,5 +1,5 @@
--- Operations that lead from both sides to one cut are drawn as a legal wiring: their cuts, those from the south and then those from the
--- north, are a tracked, in which each track is one operation.
+-- Operations that lead from both sides to one cut are drawn as a legal wiring: of their cuts, those from the south and then those from the
+-- north, each is one track from the next, as proofs/Tracks asks.
 use Prim.Native.Nat.{ℕ, zero, suc, _+_, _-_, _≤_, _<_}
 use mathlib.Core.Path.{_≡_, refl, sym, ap, _∙_}
 use mathlib.Core.Logic.{_⊎_, _≢_, by-cases, ⊎-elim}
