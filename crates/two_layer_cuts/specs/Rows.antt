@@ -4,10 +4,11 @@
 --   columnEntries   the entries of a row with one for each column and one for 0
 --   item list m     entry m of a list, counted from 0; 0 past its end
 --   Row n f list    entry c of the list is f c, for each of columns 1 to n and for 0
-use Prim.Native.Nat.{ℕ, _≤_}
+use Prim.Native.Nat.{ℕ, _+_, _≤_}
 use mathlib.Core.Path.{_≡_}
 use mathlib.Core.List.{List}
 use lib.ListN.{length, getD}
+use Rattle.terms.specs.Limits.{longestSide}
 use Rattle.two_layer_law.specs.Cuts.{Ops}
 use Rattle.two_layer_cuts.specs.declared.Operations.{Operations}
 
@@ -22,7 +23,7 @@ opsOf o =
     }
 
 abbrev pub columnEntries : ℕ
-columnEntries = 91
+columnEntries = longestSide + 1
 
 abbrev pub item : List ℕ → ℕ → ℕ
 item list m = getD list m 0
