@@ -4,6 +4,8 @@
 --   pinCountOn p m s, pinCount p m
 --                     how many pins hold net m, on side s and on all
 --   netCount p        "the number of nets": how many have a pin
+--   filledOn p s, filled p
+--                     "pins P (all of them)": how many places hold a pin, on side s and on all
 --   loneNet p         "a net with one pin (the smallest such net)", 0 where there is none
 --   widthOf q         "for a box, its w"; the other kinds have no width of their own, and 1 stands there
 --   shapeOf q         a grid of the problem's length and width; its layers play no part
@@ -34,6 +36,12 @@ pinCount p m = pinCountOn p m north + pinCountOn p m south + pinCountOn p m west
 
 abbrev pub netCount : GridPins → ℕ
 netCount p = nets (λ m. leb 1 (pinCount p m))
+
+abbrev pub filledOn : GridPins → Side → ℕ
+filledOn p s = count (λ a. leb 1 (p s a)) longestSide
+
+unfoldable pub filled : GridPins → ℕ
+filled p = filledOn p north + filledOn p south + filledOn p west + filledOn p east
 
 abbrev pub loneNet : GridPins → ℕ
 loneNet p = least (λ m. eqb (pinCount p m) 1) largestNet

@@ -1,0 +1,4 @@
+pub mod Tabling
+pub mod FourCounts
+pub mod Totals
+pub mod Reach
