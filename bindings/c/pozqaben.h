@@ -47,7 +47,7 @@ extern "C" {
 /* How many entries each call writes. */
 enum {
     POZQABEN_READ_ENTRIES = 6,
-    POZQABEN_SURVEY_ENTRIES = 10,
+    POZQABEN_SURVEY_ENTRIES = 11,
     POZQABEN_LAY_ENTRIES = 11,
     POZQABEN_CHECK_ENTRIES = 2,
     POZQABEN_LAYER_VIEW_ENTRIES = 4
@@ -62,9 +62,9 @@ enum { POZQABEN_LONGEST_TICKET = 412 };
 /* number, place, kind, n, byte 2, nets */
 bool pozqaben_read(const uint8_t *ticket, size_t ticket_length, uint64_t *answer, size_t answer_length);
 
-/* number, place, kind, n, w, nets, across, up, layers, floor; w is the box's own, or the tracks that lay uses for a row
- * or channel, and 0 for a two-layer channel, whose layers are 2, also where it is solid; up and floor are 0 but for
- * boxes */
+/* number, place, kind, n, w, nets, pins, across, up, layers, floor; w is the box's own, or the tracks that lay uses for
+ * a row or channel, and 0 for a two-layer channel, whose layers are 2, also where it is solid; pins is how many places
+ * hold a pin; up and floor are 0 but for boxes */
 bool pozqaben_survey(const uint8_t *ticket, size_t ticket_length, uint64_t *answer, size_t answer_length);
 
 /* number, place, kind, n, w, k, first, nets, across, up, floor; first is 1 where layer 1 is horizontal.

@@ -6,18 +6,29 @@
 
 #include "pozqaben.h"
 
+/* The entries of the answer, in order. */
+enum { KIND = 2, LENGTH, WIDTH, NETS, PINS, ACROSS, UP, LAYERS, FLOOR };
+
+static void print_counts(const uint64_t *a) {
+    printf(" nets %d pins %d across %d", (int)a[NETS], (int)a[PINS], (int)a[ACROSS]);
+}
+
 static void print_box(const uint64_t *a) {
-    printf("box length %d width %d nets %d across %d up %d layers %d floor %d\n", (int)a[3], (int)a[4], (int)a[5],
-           (int)a[6], (int)a[7], (int)a[8], (int)a[9]);
+    printf("box length %d width %d", (int)a[LENGTH], (int)a[WIDTH]);
+    print_counts(a);
+    printf(" up %d layers %d floor %d\n", (int)a[UP], (int)a[LAYERS], (int)a[FLOOR]);
 }
 
 static void print_trunks(const char *name, const uint64_t *a) {
-    printf("%s length %d nets %d across %d tracks %d layers %d\n", name, (int)a[3], (int)a[5], (int)a[6], (int)a[4],
-           (int)a[8]);
+    printf("%s length %d", name, (int)a[LENGTH]);
+    print_counts(a);
+    printf(" tracks %d layers %d\n", (int)a[WIDTH], (int)a[LAYERS]);
 }
 
 static void print_two_layer(const uint64_t *a) {
-    printf("two-layer length %d nets %d across %d layers %d\n", (int)a[3], (int)a[5], (int)a[6], (int)a[8]);
+    printf("two-layer length %d", (int)a[LENGTH]);
+    print_counts(a);
+    printf(" layers %d\n", (int)a[LAYERS]);
 }
 
 int main(void) {
@@ -30,7 +41,7 @@ int main(void) {
         printf("refused %d at %d\n", (int)answer[0], (int)answer[1]);
         return 0;
     }
-    switch (answer[2]) {
+    switch (answer[KIND]) {
     case POZQABEN_ROW:
         print_trunks("row", answer);
         return 0;

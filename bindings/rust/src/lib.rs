@@ -72,6 +72,8 @@ pub struct Survey {
     /// The width of a box, or the tracks that `lay` uses for a row or a channel; 0 for a two-layer channel.
     pub w: usize,
     pub nets: usize,
+    /// How many places hold a pin.
+    pub pins: usize,
     pub across: usize,
     /// 0 but for boxes, as floor.
     pub up: usize,
@@ -82,12 +84,14 @@ pub struct Survey {
 /// The line that the program prints.
 impl fmt::Display for Survey {
     fn fmt(&self, f: &mut fmt::Formatter) -> fmt::Result {
-        let Survey { kind, n, w, nets, across, up, layers, floor } = self;
+        let Survey { kind, n, w, nets, pins, across, up, layers, floor } = self;
         match kind {
-            Kind::Row => write!(f, "row length {n} nets {nets} across {across} tracks {w} layers {layers}"),
-            Kind::Channel => write!(f, "channel length {n} nets {nets} across {across} tracks {w} layers {layers}"),
-            Kind::Box => write!(f, "box length {n} width {w} nets {nets} across {across} up {up} layers {layers} floor {floor}"),
-            Kind::TwoLayer => write!(f, "two-layer length {n} nets {nets} across {across} layers {layers}"),
+            Kind::Row => write!(f, "row length {n} nets {nets} pins {pins} across {across} tracks {w} layers {layers}"),
+            Kind::Channel => write!(f, "channel length {n} nets {nets} pins {pins} across {across} tracks {w} layers {layers}"),
+            Kind::Box => {
+                write!(f, "box length {n} width {w} nets {nets} pins {pins} across {across} up {up} layers {layers} floor {floor}")
+            }
+            Kind::TwoLayer => write!(f, "two-layer length {n} nets {nets} pins {pins} across {across} layers {layers}"),
         }
     }
 }
@@ -146,8 +150,8 @@ pub fn survey(ticket: &[u8]) -> Result<Survey, Refusal> {
     let mut answer = [0; raw::SURVEY_ENTRIES];
     // Sound: as in `read`.
     unsafe { raw::pozqaben_survey(ticket.as_ptr(), ticket.len(), answer.as_mut_ptr(), answer.len()) };
-    let [_, _, k, n, w, nets, across, up, layers, floor] = accepted(answer)?;
-    Ok(Survey { kind: kind(k), n, w, nets, across, up, layers, floor })
+    let [_, _, k, n, w, nets, pins, across, up, layers, floor] = accepted(answer)?;
+    Ok(Survey { kind: kind(k), n, w, nets, pins, across, up, layers, floor })
 }
 
 /// Lays the ticket into the buffer, of which a refusal alters no byte, and no other call a byte past the wiring.

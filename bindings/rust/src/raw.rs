@@ -10,7 +10,7 @@
 
 /// How many entries each call writes.
 pub const READ_ENTRIES: usize = 6;
-pub const SURVEY_ENTRIES: usize = 10;
+pub const SURVEY_ENTRIES: usize = 11;
 pub const LAY_ENTRIES: usize = 11;
 pub const CHECK_ENTRIES: usize = 2;
 pub const LAYER_VIEW_ENTRIES: usize = 4;
@@ -25,7 +25,7 @@ extern "C" {
     /// number, place, kind, n, byte 2, nets
     pub fn pozqaben_read(ticket: *const u8, ticket_length: usize, answer: *mut u64, answer_length: usize) -> bool;
 
-    /// number, place, kind, n, w, nets, across, up, layers, floor
+    /// number, place, kind, n, w, nets, pins, across, up, layers, floor
     pub fn pozqaben_survey(ticket: *const u8, ticket_length: usize, answer: *mut u64, answer_length: usize) -> bool;
 
     /// number, place, kind, n, w, k, first, nets, across, up, floor

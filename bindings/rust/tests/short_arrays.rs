@@ -23,8 +23,8 @@ fn read_survey_and_view() {
         let t = random(r);
         only_with_room(6, |a| common::read(&t, a));
         only_with_room(6, |a| common::read(&t[1..], a));
-        only_with_room(10, |a| common::survey(&t, a));
-        only_with_room(10, |a| common::survey(&t[1..], a));
+        only_with_room(11, |a| common::survey(&t, a));
+        only_with_room(11, |a| common::survey(&t[1..], a));
         only_with_room(4, |a| common::layer_view(&t, t.len(), 1, 1, 1, a));
         only_with_room(4, |a| common::layer_view(&t, t.len(), 1, 2, 1, a));
     }

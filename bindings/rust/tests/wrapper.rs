@@ -12,9 +12,9 @@ fn document(name: &str) -> &'static [u8] {
 #[test]
 fn typed_answers() {
     assert_eq!(read(document("R2")), Ok(Reading { kind: Kind::Row, n: 6, byte2: 2, nets: 3 }));
-    let box4 = Survey { kind: Kind::Box, n: 4, w: 1, nets: 4, across: 4, up: 4, layers: 12, floor: 7 };
+    let box4 = Survey { kind: Kind::Box, n: 4, w: 1, nets: 4, pins: 8, across: 4, up: 4, layers: 12, floor: 7 };
     assert_eq!(survey(document("box")), Ok(box4));
-    let channel = Survey { kind: Kind::Channel, n: 2, w: 2, nets: 2, across: 2, up: 0, layers: 3, floor: 0 };
+    let channel = Survey { kind: Kind::Channel, n: 2, w: 2, nets: 2, pins: 4, across: 2, up: 0, layers: 3, floor: 0 };
     assert_eq!(survey(document("C1")), Ok(channel));
     let (laid, wiring) = lay(document("B1")).unwrap();
     assert_eq!(laid, Laid { kind: Kind::Box, n: 1, w: 1, k: 6, first: false, nets: 1, across: 1, up: 1, floor: 2 });
@@ -30,7 +30,7 @@ fn typed_answers() {
 fn two_layer_answers() {
     let t = rings(4); // north 1 2 1 2, south 2 1 2 1
     assert_eq!(read(&t), Ok(Reading { kind: Kind::TwoLayer, n: 4, byte2: 1, nets: 2 }));
-    let figures = Survey { kind: Kind::TwoLayer, n: 4, w: 0, nets: 2, across: 2, up: 0, layers: 2, floor: 0 };
+    let figures = Survey { kind: Kind::TwoLayer, n: 4, w: 0, nets: 2, pins: 8, across: 2, up: 0, layers: 2, floor: 0 };
     assert_eq!(survey(&t), Ok(figures));
     let (laid, wiring) = lay(&t).unwrap();
     assert_eq!(laid, Laid { kind: Kind::TwoLayer, n: 4, w: laid.w, k: 2, first: false, nets: 2, across: 2, up: 0, floor: 0 });
@@ -41,14 +41,14 @@ fn two_layer_answers() {
 #[test]
 fn two_layer_line() {
     let line = survey(&rings(4)).unwrap().to_string();
-    assert_eq!(line, "two-layer length 4 nets 2 across 2 layers 2");
+    assert_eq!(line, "two-layer length 4 nets 2 pins 8 across 2 layers 2");
 }
 
 /// North 1 2, south 2 1: surveyed, and refused by `lay` whatever the buffer.
 #[test]
 fn two_layer_solid() {
     let solid = [4, 2, 1, 3, 3, 1, 2, 3, 2, 1];
-    assert_eq!(survey(&solid).unwrap().to_string(), "two-layer length 2 nets 2 across 2 layers 2");
+    assert_eq!(survey(&solid).unwrap().to_string(), "two-layer length 2 nets 2 pins 4 across 2 layers 2");
     let text = "refused 17 at 0: the two-layer channel is solid, so that no width has a legal wiring on two layers";
     say(lay(&solid), text);
     say(lay_into(&solid, &mut []), text);

@@ -3,24 +3,21 @@ use Prim.Native.Nat.{ℕ, zero, suc, _+_, _*_, _%_, _≤_}
 use native.Mathlib.Omega.{arith}
 use native.Mathlib.Nat.{mul-comm}
 use native.Mathlib.Decide.{decLe}
-use mathlib.Core.Path.{_≡_, refl, sym, fun-ext, _∙_}
+use mathlib.Core.Path.{_≡_, refl, sym, _∙_}
 use mathlib.Core.List.{List}
 use lib.ListN.{length, getD, take}
 use lib.Seq.{getD-take}
 use borrow.Author.Tests.{eq-eqb, ne-eqb}
 use Rattle.counting.specs.Counting.{In}
-use Rattle.terms.specs.Kinds.{Side, north, south, west, east}
 use Rattle.terms.specs.Limits.{largestNet, longestSide, mostLayers}
 use Rattle.grid.specs.Grid.{upright, point, Inside}
-use Rattle.grid.specs.Legal.{wiringOf, entry, pinsOf}
+use Rattle.grid.specs.Legal.{wiringOf, entry, columnPins}
 use Rattle.paint.specs.Paint.{Drawn}
 use Rattle.grid.specs.Laid.{Laid}
 use Rattle.paint.proofs.Laws.{drawn-wiring}
-use Rattle.trunks.specs.declared.Trunks.{Trunks}
-use Rattle.trunks.specs.Trunks.{Placed}
+use Rattle.trunks.specs.Trunks.{Trunks, Placed}
 use Rattle.channel_law.specs.Drawing.{Plan, Trunks as TrunksIn}
 use Rattle.channel_law.proofs.Legality.{row-legal, channel-legal}
-use Rattle.grid.specs.Legal.{columnPins}
 use Rattle.channel.specs.Given.{Given}
 use Rattle.channel.specs.Laying.{planOf, base, Seated, Crossed}
 use Rattle.channel.proofs.Plans.{none, spans, seated}

@@ -18,8 +18,7 @@ use Rattle.grid.specs.Grid.{Grid, upright, pin, point, places, columnOf, Inside
 use Rattle.grid.specs.Legal.{nets, entry}
 use Rattle.density.specs.Density.{passes, across}
 use Rattle.density.proofs.Pinned.{Pinned, Span, passes-span}
-use Rattle.trunks.specs.declared.Trunks.{Trunks}
-use Rattle.trunks.specs.Trunks.{leftOf, rightOf, placeOf, PinIn, crossing, Placed}
+use Rattle.trunks.specs.Trunks.{Trunks, leftOf, rightOf, placeOf, PinIn, crossing, Placed}
 use Rattle.channel_law.specs.Drawing.{Claims, Spans}
 use Rattle.grid.specs.Legal.{columnPins}
 use Rattle.channel.specs.Laying.{planOf, Seated}

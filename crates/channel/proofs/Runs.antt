@@ -16,8 +16,7 @@ use Rattle.paint.specs.Paint.{Painted}
 use Rattle.paint.proofs.Laws.{put-painted}
 use Rattle.channel_law.specs.Drawing.{Plan, Claims, Trunks as TrunksIn}
 use Rattle.channel_law.proofs.Laying.{lay}
-use Rattle.trunks.specs.declared.Trunks.{Trunks}
-use Rattle.trunks.specs.Trunks.{leftOf, rightOf, placeOf}
+use Rattle.trunks.specs.Trunks.{Trunks, leftOf, rightOf, placeOf}
 use Rattle.channel.specs.Laying.{planOf, Seated, Crossed}
 
 -- a run of points of one track is a run of bytes, and lies in the buffer

@@ -14,8 +14,7 @@ use lib.ListN.{length, getD}
 use lib.Dec.{eqb}
 use Rattle.grid.specs.Grid.{Grid, point, Inside}
 use Rattle.grid.specs.Legal.{Wiring, wiringOf, entry}
-use Rattle.trunks.specs.declared.Trunks.{Trunks}
-use Rattle.trunks.specs.Trunks.{leftOf, rightOf, placeOf}
+use Rattle.trunks.specs.Trunks.{Trunks, leftOf, rightOf, placeOf}
 use Rattle.channel_law.specs.Drawing.{Plan, Claims, Trunks as TrunksIn}
 
 abbrev pub planOf : Trunks → ℕ → Plan

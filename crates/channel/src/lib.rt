@@ -9,6 +9,7 @@ ghost use Rattle.terms.specs.Limits.{largestNet, longestSide, mostLayers};
 ghost use Rattle.grid.specs.Legal.{index, wiringOf, columnPins};
 ghost use Rattle.paint.specs.Paint.{Striped, Painted, Drawn};
 ghost use Rattle.grid.specs.Laid.{Laid};
+ghost use Rattle.trunks.specs.Trunks.{trunksOf, SpanColumns};
 ghost use Rattle.channel_law.specs.Drawing.{Trunks as TrunksIn};
 ghost use Rattle.channel.specs.Given.{Given};
 ghost use Rattle.channel.specs.Laying.{planOf, base, Seated, Crossed};
@@ -20,7 +21,7 @@ use grid::layer_count;
 use grid::track_count;
 use terms::LARGEST_NET;
 use terms::LONGEST_SIDE;
-use trunks::Trunks;
+use terms::NET_ENTRIES;
 
 // Layer l, counted from 0, whose bytes the part is: a comb of the pins a or b, or a trunk layer, which is empty as yet.
 fn lay_layer(part: &mut [u8], l: usize, a: &[u8], b: &[u8], w: usize)
@@ -101,58 +102,82 @@ fn lay_trunk(
 }
 
 // The trunks of all nets, one after the other.
-fn lay_trunks(wiring: &mut [u8], t: Trunks, n: Column, w: Track, k: Layer)
+fn lay_trunks<'a>(
+    wiring: &mut [u8],
+    first: &'a [u8; NET_ENTRIES],
+    last: &'a [u8; NET_ENTRIES],
+    places: &[u8; NET_ENTRIES],
+    n: Column,
+    w: Track,
+    k: Layer,
+)
     requires { ⌜ (n .0 ≤ longestSide) × (w .0 ≤ longestSide) × (k .0 ≤ mostLayers) × (n .0 * w .0 * k .0 ≤ length (now wiring)) ⌝ }
-    requires { ⌜ Seated (planOf t (w .0)) (upright (n .0) (w .0) (k .0))
-        × TrunksIn (planOf t (w .0)) (upright (n .0) (w .0) (k .0)) (wiringOf (upright (n .0) (w .0) (k .0)) (now wiring)) 0 ⌝ }
-    ensures { λ _. ⌜ Crossed (planOf t (w .0)) (upright (n .0) (w .0) (k .0)) (now (wiring .entry)) (now (wiring .exit)) largestNet ⌝ }
+    requires { ⌜ Seated (planOf (trunksOf (now first) (now last) (now places)) (w .0)) (upright (n .0) (w .0) (k .0))
+        × TrunksIn (planOf (trunksOf (now first) (now last) (now places)) (w .0)) (upright (n .0) (w .0) (k .0))
+        (wiringOf (upright (n .0) (w .0) (k .0)) (now wiring)) 0 ⌝ }
+    ensures { λ _. ⌜ Crossed (planOf (trunksOf (now (first .entry)) (now (last .entry)) (now (places .entry))) (w .0))
+        (upright (n .0) (w .0) (k .0)) (now (wiring .entry)) (now (wiring .exit)) largestNet ⌝ }
 {
     let mut m: usize = 0;
     while m < LARGEST_NET {
         m += 1;
-        let left = wide(t.left[m]);
-        let right = wide(t.right[m]);
+        let left = wide(first[m]);
+        let right = wide(last[m]);
         if left < right {
-            let place = wide(t.place[m]);
+            let place = wide(places[m]);
             lay_trunk(wiring, m as u8, Column(left), Column(right), place, n, w, k);
         }
     }
 }
 
 // A row's 2h layers: the north pins on each comb. The south side has no pins.
-pub fn lay_row(
+pub fn lay_row<'a>(
     north: &[u8; LONGEST_SIDE],
     south: &[u8; LONGEST_SIDE],
+    first: &'a [u8; NET_ENTRIES],
+    last: &'a [u8; NET_ENTRIES],
+    norths: &'a [u8; NET_ENTRIES],
+    souths: &'a [u8; NET_ENTRIES],
+    wests: &'a [u8; NET_ENTRIES],
+    easts: &'a [u8; NET_ENTRIES],
     n: Column,
     w: Track,
     h: usize,
     wiring: &mut [u8],
 )
-    requires { ⌜ Given (now north) (now south) (n .0) (w .0) h (2 * h) (now wiring) × ((a : ℕ) → getD (now south) a 0 ≡ 0) ⌝ }
+    requires { ⌜ Given (now north) (now south) (n .0) (w .0) h (2 * h) (now wiring) × ((a : ℕ) → getD (now south) a 0 ≡ 0)
+        × SpanColumns (now north) (now south) (n .0) (now first) (now last) (now wests) (now easts) ⌝ }
     ensures { λ _. ⌜ Laid (upright (n .0) (w .0) (2 * h)) (columnPins (now (north .entry)) (now (south .entry)))
         (now (wiring .entry)) (now (wiring .exit)) ⌝ }
 {
-    let t = trunks::place_trunks(north, south, n);
+    let places = trunks::place_trunks(north, south, first, last, norths, souths, wests, easts, n);
     let k = Layer(2 * h);
     lay_layers(wiring, north, north, n, w, k);
-    lay_trunks(wiring, t, n, w, k);
+    lay_trunks(wiring, first, last, &places, n, w, k);
 }
 
 // A channel's 2h + 1 layers: north and south pins on the combs in turn.
-pub fn lay_channel(
+pub fn lay_channel<'a>(
     north: &[u8; LONGEST_SIDE],
     south: &[u8; LONGEST_SIDE],
+    first: &'a [u8; NET_ENTRIES],
+    last: &'a [u8; NET_ENTRIES],
+    norths: &'a [u8; NET_ENTRIES],
+    souths: &'a [u8; NET_ENTRIES],
+    wests: &'a [u8; NET_ENTRIES],
+    easts: &'a [u8; NET_ENTRIES],
     n: Column,
     w: Track,
     h: usize,
     wiring: &mut [u8],
 )
-    requires { ⌜ Given (now north) (now south) (n .0) (w .0) h (2 * h + 1) (now wiring) ⌝ }
+    requires { ⌜ Given (now north) (now south) (n .0) (w .0) h (2 * h + 1) (now wiring)
+        × SpanColumns (now north) (now south) (n .0) (now first) (now last) (now wests) (now easts) ⌝ }
     ensures { λ _. ⌜ Laid (upright (n .0) (w .0) (2 * h + 1)) (columnPins (now (north .entry)) (now (south .entry)))
         (now (wiring .entry)) (now (wiring .exit)) ⌝ }
 {
-    let t = trunks::place_trunks(north, south, n);
+    let places = trunks::place_trunks(north, south, first, last, norths, souths, wests, easts, n);
     let k = Layer(2 * h + 1);
     lay_layers(wiring, north, south, n, w, k);
-    lay_trunks(wiring, t, n, w, k);
+    lay_trunks(wiring, first, last, &places, n, w, k);
 }

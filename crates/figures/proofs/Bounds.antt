@@ -1,74 +1,66 @@
--- What the figures' formulas ask: counts of nets are small, a quotient is no larger than what it divides; up, as across of the sides exchanged.
-use Prim.Native.Nat.{ℕ, _≤_}
-use mathlib.Core.Path.{_≡_, refl, sym, ap, ap₂, _∙_}
-use mathlib.Core.Bool.{Bool, cond}
+-- What the figures' formulas ask of a good problem: its sizes are small, its sides hold nets; and the figures from what the functions give.
+use Prim.Native.Nat.{ℕ, suc, _≤_}
+use mathlib.Core.Path.{_≡_, refl, ap, ap₂, _∙_}
 use mathlib.Core.List.{List}
-use mathlib.Core.Logic.{_≢_, by-cases}
-use native.Mathlib.Nat.{mul-le-mul-right}
-use native.Mathlib.Decide.{ℕ-discrete}
 use native.Mathlib.Omega.{arith}
-use borrow.Author.Tests.{eq-eqb, ne-eqb}
 use Rattle.counting.specs.Counting.{In, ceil}
-use Rattle.counting.proofs.Counts.{count-le, most-le, ceil-le}
-use Rattle.grid.specs.Grid.{Grid, upright}
+use Rattle.grid.specs.Grid.{upright}
+use Rattle.grid.specs.Legal.{entry}
 use Rattle.terms.specs.Kinds.{byKind, largestByte2, layersFor}
 use Rattle.terms.specs.Limits.{largestNet, longestSide}
-use Rattle.grid.specs.Legal.{Pins, nets, pinsOf}
-use Rattle.density.specs.Density.{pinOn, hasPin, passes, passesAt, across, up, tracksFor, floor, floorOf}
-use Rattle.density.proofs.Tracks.{up-turned}
+use Rattle.density.specs.Density.{across, up, tracksFor, floor, floorOf}
 use Rattle.problem.specs.declared.Problem.{Problem}
 use Rattle.problem.specs.Problem.{Good, pinsIn, shapeOf, widthOf}
-use Rattle.figures.specs.declared.Figures.{Figures}
+use Rattle.nets.specs.Tables.{firstHeld, lastHeld, NetTable}
+use Rattle.figures.specs.Crossings.{AlongSides}
 use Rattle.figures.specs.Figures.{acrossOf, tracksOf, figuresOf}
 use Rattle.terms.proofs.Laws.{Known, is-row, is-channel, is-box, is-two-layer, known}
 
-pub across-le : (g : Grid) (p : Pins) → across g p ≤ largestNet
-unfolding across
-across-le g p = most-le (λ c. nets (passes g p c)) (g .n) largestNet (λ c i. count-le (passes g p c) largestNet)
+pub sides : {a b first last : List ℕ} {k : ℕ} (n : ℕ) → k ≡ n → In n longestSide → ((i : ℕ) → entry a i ≤ largestNet)
+    → ((i : ℕ) → entry b i ≤ largestNet) → NetTable (firstHeld (entry a) (entry b) n) first → NetTable (lastHeld (entry a) (entry b) n) last
+    → AlongSides a b first last k
+sides n e i ha hb f l =
+    rw e record { fits = i .1; on-a = record { small = λ v. ha (suc v) }; on-b = record { small = λ v. hb (suc v) }; firsts = f; lasts = l }
 
-pub up-by : (N S W E : List ℕ) (n w : ℕ) → up (upright n w 1) (pinsOf N S W E) ≡ across (upright w n 1) (pinsOf E W S N)
-unfolding across passesAt hasPin pinOn
-up-by N S W E n w = up-turned (upright n w 1) (pinsOf N S W E)
+-- the sizes as the code has them: length, width and byte 2
+pub record Sizes (q : Problem) (long w b : ℕ) : Type 0 where
+  pub length : long ≡ q .n .0
+  pub width : w ≡ widthOf q
+  pub byte2 : b ≡ q .byte2
 
-pub byte2-in : (q : Problem) → Good q → In (q .byte2) longestSide
-byte2-in q g = small (known (q .kind) (g .kind)) (g .byte2)
+pub both-in : {q : Problem} → Good q → In (q .byte2) longestSide × In (widthOf q) longestSide
+both-in {q} good = small (known (q .kind) (good .kind)) (good .byte2)
   where
-    small : {kind b : ℕ} → Known kind → In b (largestByte2 kind) → In b longestSide
+    small : {kind v : ℕ} → Known kind → In v (largestByte2 kind) → In v longestSide × In (byKind kind 1 1 1 v 1) longestSide
     small is-row h = omega arith
     small is-channel h = omega arith
-    small is-box h = h
+    small is-box h = (h, h)
     small is-two-layer h = omega arith
 
-pub width-in : (q : Problem) → Good q → In (widthOf q) longestSide
-width-in q g = small (known (q .kind) (g .kind)) (g .byte2)
-  where
-    small : {kind b : ℕ} → Known kind → In b (largestByte2 kind) → In (byKind kind 1 1 1 b 1) longestSide
-    small is-row h = omega arith
-    small is-channel h = omega arith
-    small is-box h = h
-    small is-two-layer h = omega arith
+module _ {q : Problem} {long w b : ℕ} (good : Good q) (z : Sizes q long w b) where
+  pub length-in : In long longestSide
+  length-in = rw (z .length) (good .columns)
 
--- the figures from what the functions give: b is byte 2, w the width, a across, u the sides exchanged
-module _ (q : Problem) (good : Good q) {b w a u t l f x y : ℕ} (long : ℕ) (e-b : b ≡ q .byte2) (e-n : long ≡ q .n .0) (e-w : w ≡ byKind (q .kind) 1 1 1 b 1)
-    (e-a : a ≡ across (upright long w 1) (pinsIn (q .pins)))
-    (e-u : u ≡ byKind (q .kind) 0 0 0 (across (upright w long 1) (pinsOf (q .pins .east) (q .pins .west) (q .pins .south) (q .pins .north))) 0)
+  pub byte2-in : In b longestSide
+  byte2-in = rw (z .byte2) (both-in good .0)
+
+  pub width-in : In w longestSide
+  width-in = rw (z .width) (both-in good .1)
+
+-- a is across, u is up
+module _ {q : Problem} (good : Good q) {long w b a u t l f x y : ℕ} (z : Sizes q long w b)
+    (e-a : a ≡ across (upright long (widthOf q) 1) (pinsIn (q .pins)))
+    (e-u : u ≡ byKind (q .kind) 0 0 0 (up (upright (q .n .0) w 1) (pinsIn (q .pins))) 0)
     (e-t : t ≡ tracksFor b a) (e-l : l ≡ layersFor (q .kind) (q .n .0) b) (e-f : f ≡ floor (ceil a w) (ceil u long))
     (e-x : x ≡ byKind (q .kind) 0 t t b 0) (e-y : y ≡ byKind (q .kind) 0 0 0 f 0) where
-  same-w : w ≡ widthOf q
-  same-w = e-w ∙ ap (λ (v : ℕ). byKind (q .kind) 1 1 1 v 1) e-b
-
   same-a : a ≡ acrossOf q
-  same-a = e-a ∙ ap₂ (λ (m v : ℕ). across (upright m v 1) (pinsIn (q .pins))) e-n same-w
+  same-a = e-a ∙ ap (λ (m : ℕ). across (upright m (widthOf q) 1) (pinsIn (q .pins))) (z .length)
 
   same-u : u ≡ byKind (q .kind) 0 0 0 (up (shapeOf q) (pinsIn (q .pins))) 0
-  same-u =
-      e-u
-      ∙ ap (λ (v : ℕ). byKind (q .kind) 0 0 0 v 0) (
-      ap₂ (λ (v m : ℕ). across (upright v m 1) (pinsOf (q .pins .east) (q .pins .west) (q .pins .south) (q .pins .north))) same-w e-n
-      ∙ sym (up-by (q .pins .north) (q .pins .south) (q .pins .west) (q .pins .east) (q .n .0) (widthOf q)))
+  same-u = e-u ∙ ap (λ (v : ℕ). byKind (q .kind) 0 0 0 (up (upright (q .n .0) v 1) (pinsIn (q .pins))) 0) (z .width)
 
   same-t : t ≡ tracksOf q
-  same-t = e-t ∙ ap₂ tracksFor e-b same-a
+  same-t = e-t ∙ ap₂ tracksFor (z .byte2) same-a
 
   -- a kind without up has no floor
   floors : {kind : ℕ} → Known kind → (v p m : ℕ) → byKind kind 0 0 0 (floor (ceil v m) (ceil (byKind kind 0 0 0 p 0) (q .n .0))) 0
@@ -80,12 +72,12 @@ module _ (q : Problem) (good : Good q) {b w a u t l f x y : ℕ} (long : ℕ) (e
 
   same-y : y ≡ byKind (q .kind) 0 0 0 (floorOf (shapeOf q) (pinsIn (q .pins))) 0
   same-y =
-      e-y ∙ ap (λ (v : ℕ). byKind (q .kind) 0 0 0 v 0) (e-f ∙ (λ i. floor (ceil (same-a i) (same-w i)) (ceil (same-u i) (e-n i))))
+      e-y ∙ ap (λ (v : ℕ). byKind (q .kind) 0 0 0 v 0) (e-f ∙ (λ i. floor (ceil (same-a i) (z .width i)) (ceil (same-u i) (z .length i))))
       ∙ floors (known (q .kind) (good .kind)) (acrossOf q) (up (shapeOf q) (pinsIn (q .pins))) (widthOf q)
 
   pub figures-are : record { w = record { 0 = x }; across = a; up = u; layers = record { 0 = l }; floor = record { 0 = y } } ≡ figuresOf q
   unfolding figuresOf
   figures-are =
-      let same-x : x ≡ byKind (q .kind) 0 (tracksOf q) (tracksOf q) (q .byte2) 0 = e-x ∙ ap₂ (λ (v p : ℕ). byKind (q .kind) 0 v v p 0) same-t e-b in
-      let same-l : l ≡ layersFor (q .kind) (q .n .0) (q .byte2) = e-l ∙ ap (layersFor (q .kind) (q .n .0)) e-b in
+      let same-x : x ≡ byKind (q .kind) 0 (tracksOf q) (tracksOf q) (q .byte2) 0 = e-x ∙ ap₂ (λ (v p : ℕ). byKind (q .kind) 0 v v p 0) same-t (z .byte2) in
+      let same-l : l ≡ layersFor (q .kind) (q .n .0) (q .byte2) = e-l ∙ ap (layersFor (q .kind) (q .n .0)) (z .byte2) in
       λ i. record { w = record { 0 = same-x i }; across = same-a i; up = same-u i; layers = record { 0 = same-l i }; floor = record { 0 = same-y i } }

@@ -1,4 +1,5 @@
-pub mod Flags
+pub mod Entries
 pub mod Sweep
+pub mod Passes
 pub mod Across
 pub mod Bounds

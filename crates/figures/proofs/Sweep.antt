@@ -1,113 +1,134 @@
--- From column to column: the nets that begin at a column come in, those that end there go. Each is one of the column's two pins.
-use Prim.Native.Nat.{ℕ, _+_, min}
+-- From column to column: the nets that begin at a column come in, those that end there go, and each is one of the column's two pins.
+use Prim.Native.Nat.{ℕ, suc, _+_, _≤_, _<_, min, max}
 use mathlib.Core.Path.{_≡_, refl, sym, ap, ap₂, _∙_}
-use mathlib.Core.Bool.{Bool, true, false, not, _&&_, _||_, or-true, or-false, and-true, and-false, and-comm, and-self}
-use native.Mathlib.Decide.{decLe}
+use mathlib.Core.Logic.{by-cases}
+use mathlib.Core.Bool.{Bool, true, false, not, _&&_, _||_, and-true, and-false, and-eq-true-iff, false≢true}
+use mathlib.Core.List.{List}
+use native.Mathlib.Decide.{ℕ-discrete, decLe}
+use native.Mathlib.Numerals.{add-one}
 use native.Mathlib.Omega.{arith}
-use lib.Dec.{eqb, leb}
-use borrow.Author.Tests.{eq-eqb, ne-eqb, le-leb, lt-leb}
-use Rattle.counting.specs.Counting.{In, bit}
-use Rattle.counting.proofs.Sums.{sum-same, sum-add, sum-zero, sum-change}
+use lib.Dec.{eqb, leb, ltb}
+use borrow.Author.Tests.{eqb-true, eq-eqb, ne-eqb, le-leb, lt-leb}
+use Rattle.counting.specs.Counting.{In, bit, most}
+use Rattle.counting.proofs.Sums.{split, bit-zero, sum-same, sum-add, sum-zero}
+use Rattle.counting.proofs.Counts.{count-same, count-le}
+use Rattle.counting.proofs.Tests.{count-once}
 use Rattle.terms.specs.Limits.{largestNet}
 use Rattle.grid.specs.Legal.{nets}
-use Rattle.figures.specs.Flags.{lacks, also}
+use Rattle.nets.specs.Tables.{Numbered}
+use Rattle.figures.specs.Crossings.{at, EndsAt, goesOver, nowAt}
 
--- ---- how many of the nets x and y do not pass a test
+-- ---- how many nets have an entry, where only x and y can
 
-count-one : (t : ℕ → Bool) (x : ℕ) → nets (λ m. eqb x m && lacks t m) ≡ bit (lacks t x)
-unfolding lacks
-count-one t x =
-    elim (decLe 1 x) [
-      | yes l ↦ elim (decLe x largestNet) [
-        | yes h ↦
-            let one : bit (eqb x x && lacks t x) ≡ bit (lacks t x) = simp (eq-eqb x x refl) in
-            omega (
-              arith,
-              one,
-              sum-zero (λ m. 0) largestNet (λ m i. refl),
-              sum-change (λ m. bit (eqb x m && lacks t m)) (λ m. 0) x largestNet (l, h)
-                  (λ m n. simp (ne-eqb x m (λ q. n (sym q)))),
-            )
-        | no h ↦ out (λ m i q. omega arith) ∙ sym (simp (lt-leb x largestNet (omega arith), and-false))
-      ]
-      | no l ↦ out (λ m i q. omega arith) ∙ sym (simp (lt-leb 1 x (omega arith)))
-    ]
-  where
-    out : ((m : ℕ) → In m largestNet → x ≡ m → ⊥) → nets (λ m. eqb x m && lacks t m) ≡ 0
-    out n = sum-zero (λ m. bit (eqb x m && lacks t m)) largestNet (λ m i. simp (ne-eqb x m (n m i)))
+count-at : (x : ℕ) (s : Bool) → (s ≡ true → In x largestNet) → nets (λ m. eqb x m && s) ≡ bit s
+count-at x true i =
+    count-once (λ m. eqb x m && true) largestNet x (i refl) (rw (eq-eqb x x refl)) (λ m e. sym (eqb-true x m (simp and-true at e)))
+count-at x false i = sum-zero _ largestNet (λ m j. simp and-false)
 
-two-bits : (d e i u : Bool) → bit ((d || e) && (i && not u)) ≡ bit (d && (i && not u)) + bit (e && (i && not (u || d)))
-two-bits true e i u = simp (or-true, and-false) (omega arith)
-two-bits false e i u = simp or-false (omega arith)
+module _ (t : ℕ → Bool) (x y : ℕ) (hx : x ≤ largestNet) (hy : y ≤ largestNet) (none : t 0 ≡ false)
+    (only : (m : ℕ) → In m largestNet → t m ≡ true → (eqb x m || eqb y m) ≡ true) where
+  each : (m : ℕ) → In m largestNet → bit (t m) ≡ bit (eqb x m && t x) + bit (eqb y m && (not (eqb x y) && t y))
+  each m i =
+      by-cases (ℕ-discrete x m)
+      (λ q. rw (← q, eq-eqb x x refl) (by-cases (ℕ-discrete x y)
+      (λ e. rw (eq-eqb x y e) (simp and-false (omega arith)))
+      (λ ne. rw (ne-eqb y x (λ e. ne (sym e))) (omega arith))))
+      (λ nx. rw (ne-eqb x m nx) (by-cases (ℕ-discrete y m)
+      (λ q. rw (← q, eq-eqb y y refl, ne-eqb x y (λ e. nx (e ∙ q))) (omega arith))
+      (λ ny. rw (ne-eqb y m ny) (split (t m)
+      (λ e. absurd (false≢true (rw (ne-eqb x m nx, ne-eqb y m ny) at (only m i e))))
+      (λ e. bit-zero e)))))
 
-count-two : (t : ℕ → Bool) (x y : ℕ) → nets (λ m. (eqb x m || eqb y m) && lacks t m) ≡ bit (lacks t x) + bit (lacks (also t x) y)
-unfolding lacks
-count-two t x y =
-    sum-same _ _ largestNet (λ m i. two-bits (eqb x m) (eqb y m) (leb 1 m && leb m largestNet) (t m))
-    ∙ sum-add (λ m. bit (eqb x m && lacks t m)) (λ m. bit (eqb y m && lacks (also t x) m)) largestNet
-    ∙ ap₂ (λ (a b : ℕ). a + b) (count-one t x) (count-one (also t x) y)
+  inside : (v : ℕ) → v ≤ largestNet → t v ≡ true → In v largestNet
+  inside v h e = by-cases (ℕ-discrete v 0) (λ z. absurd (false≢true (sym none ∙ ap t (sym z) ∙ e))) (λ ne. omega arith)
 
-pub lacks-in : (t : ℕ → Bool) (m : ℕ) → In m largestNet → lacks t m ≡ not (t m)
-unfolding lacks
-lacks-in t m i = simp (le-leb 1 m (i .0), le-leb m largestNet (i .1))
+  count-two : nets t ≡ bit (t x) + bit (not (eqb x y) && t y)
+  count-two =
+      sum-same _ _ largestNet each
+      ∙ sum-add (λ m. bit (eqb x m && t x)) (λ m. bit (eqb y m && (not (eqb x y) && t y))) largestNet
+      ∙ ap₂ (λ (a b : ℕ). a + b) (count-at x (t x) (inside x hx))
+      (count-at y (not (eqb x y) && t y) (λ e. inside y hy (and-eq-true-iff (not (eqb x y)) (t y) .0 e .1)))
 
--- ---- a net at one column: pins before it, past it, at it on either side
+-- ---- a net that begins at x and ends at y, from column c to the next
 
-begin-bits : (a b d e : Bool) → bit ((a || d || e) && (b || d || e)) ≡ bit (a && (b || d || e)) + bit ((d || e) && not a)
-begin-bits true b d e = simp and-false (omega arith)
-begin-bits false true d e = simp and-true (omega arith)
-begin-bits false false d e = simp (and-self, and-true) (omega arith)
+module _ (n x y c : ℕ) (crosses : min x y ≤ n → x < y) where
+  comes : c < n → bit (leb x (suc c) && leb (suc c) y) ≡ bit (leb x c && ltb c y) + bit (eqb x (suc c))
+  comes h = by-cases (ℕ-discrete x (suc c))
+      (λ q. let l = crosses (omega arith) in
+      simp (le-leb x (suc c) (omega arith), le-leb (suc c) y (omega arith), lt-leb x c (omega arith), eq-eqb x (suc c) q) refl)
+      (λ ne. rw (ne-eqb x (suc c) ne) elim (decLe x c) [
+        | yes l ↦ simp (le-leb x (suc c) (omega arith), le-leb x c l) (omega arith)
+        | no l ↦ simp (lt-leb x (suc c) (omega arith), lt-leb x c (omega arith)) refl
+      ])
 
-alone-bits : (a b d e : Bool) → bit ((a || d || e) && (b || d || e)) ≡ bit ((a || d || e) && (b || d || e) && (a || b)) + bit ((d || e) && not (a || b))
-alone-bits true b d e = simp (and-true, and-false) (omega arith)
-alone-bits false true d e = simp (and-true, and-false) (omega arith)
-alone-bits false false d e = simp (and-self, and-true, and-false) (omega arith)
+  goes : c ≤ n → bit (leb x c && leb c y) ≡ bit (leb x c && ltb c y) + bit (eqb y c)
+  goes h = by-cases (ℕ-discrete y c)
+      (λ q. let l = crosses (omega arith) in
+      simp (le-leb x c (omega arith), le-leb c y (omega arith), lt-leb (suc c) y (omega arith), eq-eqb y c q) refl)
+      (λ ne. rw (ne-eqb y c ne) elim (decLe c y) [
+        | yes l ↦ simp (le-leb c y l, le-leb (suc c) y (omega arith)) (omega arith)
+        | no l ↦ simp (lt-leb c y (omega arith), lt-leb (suc c) y (omega arith), and-false) refl
+      ])
 
-both-bits : (i p q : Bool) → bit (i && not (p || q)) ≡ min (bit (i && not p)) (bit (i && not q))
-both-bits false p q = refl
-both-bits true true q = omega arith
-both-bits true false true = refl
-both-bits true false false = refl
+  starts : eqb x 0 ≡ (leb x 0 && ltb 0 y)
+  starts = by-cases (ℕ-discrete x 0)
+      (λ q. let l = crosses (omega arith) in simp (eq-eqb x 0 q, le-leb x 0 (omega arith), le-leb 1 y (omega arith)))
+      (λ ne. simp (ne-eqb x 0 ne, lt-leb x 0 (omega arith)))
 
-spread : (p q e : Bool) → ((p || q) || e) ≡ ((p || e) || (q || e))
-spread true q e = refl
-spread false true true = refl
-spread false true false = refl
-spread false false true = refl
-spread false false false = refl
+-- ---- from the first column to the last
 
-module _ (a b : ℕ → Bool) (x y : ℕ) where
-  abbrev upTo : ℕ → Bool
-  upTo = also (also a x) y
+-- past column c: the nets that go on from it, and the most that went over a column
+pub record Swept (from to : List ℕ) (c going best : ℕ) : Type 0 where
+  pub on : going ≡ nets (λ m. leb (at from m) c && ltb c (at to m))
+  pub largest : best ≡ most (λ k. nets (goesOver from to k)) c
 
-  abbrev onFrom : ℕ → Bool
-  onFrom = also (also b x) y
+-- the two pins of column c + 1
+pub record TwoPins (a b : List ℕ) (c x y : ℕ) : Type 0 where
+  pub one : x ≡ at a c
+  pub two : y ≡ at b c
+  pub small : (x ≤ largestNet) × (y ≤ largestNet)
 
-  pub begin : nets (λ m. upTo m && onFrom m) ≡ nets (λ m. a m && onFrom m) + (bit (lacks a x) + bit (lacks (also a x) y))
-  begin =
-      sum-same _ _ largestNet (λ m i. begin-bits (a m) (b m) (eqb x m) (eqb y m) ∙ ap (λ (t : Bool). bit (a m && onFrom m) + bit
-      ((eqb x m || eqb y m) && t)) (sym (lacks-in a m i)))
-      ∙ sum-add (λ m. bit (a m && onFrom m)) (λ m. bit ((eqb x m || eqb y m) && lacks a m)) largestNet
-      ∙ ap (λ (k : ℕ). nets (λ m. a m && onFrom m) + k) (count-two a x y)
+pub two-pins : {a b : List ℕ} {c x y : ℕ} → Numbered a → Numbered b → x ≡ at a c → y ≡ at b c → TwoPins a b c x y
+two-pins {c = c} ha hb e f = record { one = e; two = f; small = (rw e (ha .small c), rw f (hb .small c)) }
 
-  pub alone : nets (λ m. upTo m && onFrom m)
-      ≡ nets (λ m. upTo m && onFrom m && (a m || b m)) +
-      (min (bit (lacks a x)) (bit (lacks b x)) + min (bit (lacks (also a x) y)) (bit (lacks (also b x) y)))
-  unfolding lacks
-  alone =
-      sum-same _ _ largestNet
-      (λ m i.
-      alone-bits (a m) (b m) (eqb x m) (eqb y m)
-      ∙ ap (λ (t : Bool). bit (upTo m && onFrom m && (a m || b m)) + bit ((eqb x m || eqb y m) && t)) (sym (lacks-in (λ m. a m || b m) m i)))
-      ∙ sum-add (λ m. bit (upTo m && onFrom m && (a m || b m))) (λ m. bit ((eqb x m || eqb y m) && lacks (λ m. a m || b m) m)) largestNet
-      ∙ ap (λ (k : ℕ). nets (λ m. upTo m && onFrom m && (a m || b m)) + k)
-      (count-two (λ m. a m || b m) x y ∙ ap₂ (λ (j k : ℕ). j + k) (both-bits (leb 1 x && leb x largestNet) (a x) (b x))
-      (ap (λ (t : Bool). bit (leb 1 y && leb y largestNet && not t)) (spread (a y) (b y) (eqb x y)) ∙ both-bits (leb 1 y && leb y largestNet) (also a x y)
-      (also b x y)))
+module _ {a b from to : List ℕ} {n : ℕ} (h : EndsAt a b n from to) where
+  pub swept-none : {going : ℕ} → going ≡ nets (λ m. eqb (at from m) 0) → Swept from to 0 going 0
+  unfolding most
+  swept-none e = record { on = e ∙ count-same _ _ largestNet (λ m i. starts n (at from m) (at to m) 0 (h .crosses m i)); largest = refl }
 
-pub end : (a b : ℕ → Bool) (x y : ℕ) → nets (λ m. upTo a b x y m && onFrom a b x y m) ≡ nets (λ m. upTo a b x y m && b m) +
-    (bit (lacks b x) + bit (lacks (also b x) y))
-end a b x y =
-    sum-same _ _ largestNet (λ m i. ap bit (and-comm (upTo a b x y m) (onFrom a b x y m)))
-    ∙ begin b a x y
-    ∙ ap (λ (k : ℕ). k + (bit (lacks b x) + bit (lacks (also b x) y))) (sum-same _ _ largestNet (λ m i. ap bit (and-comm (b m) (upTo a b x y m))))
+  module _ {c going best x y : ℕ} (r : Swept from to c going best) (l : c < n) (p : TwoPins a b c x y) where
+    come : nets (goesOver from to (suc c)) ≡ going + nowAt from x y (suc c)
+    come =
+        sum-same _ _ largestNet (λ m i. comes n (at from m) (at to m) c (h .crosses m i) l)
+        ∙ sum-add (λ m. bit (leb (at from m) c && ltb c (at to m))) (λ m. bit (eqb (at from m) (suc c))) largestNet
+        ∙ ap₂ (λ (j k : ℕ). j + k) (sym (r .on)) (count-two (λ m. eqb (at from m) (suc c)) x y (p .small .0) (p .small .1)
+        (ne-eqb (at from 0) (suc c) (λ q. omega (arith, h .empty .0)))
+        (λ m i e. rw (p .one, p .two) (h .begins m (suc c) i (omega arith) (eqb-true _ _ e))))
+
+    go : nets (goesOver from to (suc c)) ≡ nets (λ m. leb (at from m) (suc c) && ltb (suc c) (at to m)) + nowAt to x y (suc c)
+    go =
+        sum-same _ _ largestNet (λ m i. goes n (at from m) (at to m) (suc c) (h .crosses m i) l)
+        ∙ sum-add (λ m. bit (leb (at from m) (suc c) && ltb (suc c) (at to m))) (λ m. bit (eqb (at to m) (suc c))) largestNet
+        ∙ ap (λ (k : ℕ). nets (λ m. leb (at from m) (suc c) && ltb (suc c) (at to m)) + k)
+        (count-two (λ m. eqb (at to m) (suc c)) x y (p .small .0) (p .small .1)
+        (ne-eqb (at to 0) (suc c) (λ q. omega (arith, h .empty .1)))
+        (λ m i e. rw (p .one, p .two) (h .ends m (suc c) i (omega arith) (eqb-true _ _ e))))
+
+    -- i nets come in, o nets go
+    module _ {i : ℕ} (ei : i ≡ nowAt from x y (c + 1)) where
+      in-now : going + i ≡ nets (goesOver from to (suc c))
+      in-now = omega (arith, come, ei ∙ ap (nowAt from x y) (add-one c))
+
+      pub swept-in : going + i ≤ largestNet
+      swept-in = omega (arith, in-now, count-le (goesOver from to (suc c)) largestNet)
+
+      module _ {o : ℕ} (eo : o ≡ nowAt to x y (c + 1)) where
+        out-now : o ≡ nowAt to x y (suc c)
+        out-now = eo ∙ ap (nowAt to x y) (add-one c)
+
+        pub swept-out : o ≤ going + i
+        swept-out = omega (arith, in-now, go, out-now)
+
+        pub swept-more : {best′ : ℕ} (going′ : ℕ) → going′ + o ≡ going + i → best′ ≡ max best (going + i) → Swept from to (c + 1) going′ best′
+        unfolding most
+        swept-more going′ e f = rw add-one record { on = omega (arith, in-now, go, out-now); largest = f ∙ ap₂ max (r .largest) in-now }

@@ -3,39 +3,35 @@ use grid::Column;
 use grid::Layer;
 use grid::Track;
 use grid::column_count;
-use grid::track_count;
+use nets::choose;
+use nets::high_of;
+use nets::low_of;
 use problem::Problem;
 use terms::BOX;
-use terms::BYTE_VALUES;
 use terms::LARGEST_NET;
 use terms::LONGEST_SIDE;
+use terms::NET_ENTRIES;
+use terms::both;
 use terms::by_kind;
-use terms::entry_of;
 use terms::larger;
-use terms::larger_byte;
 use terms::rounded_up;
-use terms::smaller_byte;
 use terms::wide;
 ghost use mathlib.Core.Path.{_≡_};
-ghost use Prim.Native.Nat.{_+_, _*_, _-_, _≤_, min, max};
+ghost use Prim.Native.Nat.{_+_, _*_, _-_, _≤_};
 ghost use lib.Dec.{eqb};
-ghost use Rattle.counting.specs.Counting.{In, ceil};
+ghost use Rattle.counting.specs.Counting.{In, bit, most};
 ghost use Rattle.terms.specs.Limits.{largestNet, longestSide};
 ghost use Rattle.terms.specs.Kinds.{byKind, layersFor};
-ghost use Rattle.grid.specs.Grid.{upright};
-ghost use Rattle.grid.specs.Legal.{entry, pinsOf, nets};
-ghost use Rattle.density.specs.Density.{across, tracksFor, floor};
+ghost use Rattle.grid.specs.Legal.{nets};
+ghost use Rattle.density.specs.Density.{tracksFor, floor};
 ghost use Rattle.problem.specs.Problem.{Good};
-ghost use Rattle.figures.specs.Flags.{at, nowhere, held, Lacks, Ended};
+ghost use Rattle.nets.specs.Tables.{lowOf, highOf, SpansOf, Numbered};
+ghost use Rattle.figures.specs.Crossings.{at, nowhere, PerNet, crossingAt, EndsAt, goesOver, nowAt, AlongSides, Crossed};
+ghost use Rattle.figures.specs.Crossings.{tablesOf, spansFrom};
 ghost use Rattle.figures.specs.Figures.{figuresOf};
 
-// What the columns tell from the last to the first: 1 where a pin on north or on south is the last of its net, and 1 for each net that
-// has no pin past column 0.
-struct Lasts {
-    pub north: [u8; LONGEST_SIDE],
-    pub south: [u8; LONGEST_SIDE],
-    pub free: [u8; BYTE_VALUES],
-}
+// Past every column: where a net that stays in one place begins and ends.
+const NOWHERE: u8 = 255;
 
 pub struct Figures {
     pub w: Track,
@@ -45,150 +41,146 @@ pub struct Figures {
     pub floor: Layer,
 }
 
-// 1 for each net number.
-fn all_nets() -> [u8; BYTE_VALUES]
-    ensures { λ r. ⌜ Lacks nowhere r ⌝ }
+// The least place of each net along the grid.
+fn lows<'a>(
+    first: &'a [u8; NET_ENTRIES],
+    near: &'a [u8; NET_ENTRIES],
+    far: &'a [u8; NET_ENTRIES],
+    past: u8,
+) -> [u8; NET_ENTRIES]
+    ensures { λ r. ⌜ PerNet 0 (λ m. lowOf (at (now (first .entry)) m) (at (now (near .entry)) m) (at (now (far .entry)) m) past)
+        largestNet r ⌝ }
 {
-    let mut flags = [0u8; BYTE_VALUES];
+    let mut low = [0u8; NET_ENTRIES];
     let mut m: usize = 0;
     while m < LARGEST_NET {
         m += 1;
-        flags[m] = 1;
+        low[m] = low_of(first[m], near[m], far[m], past);
     }
-    flags
+    low
 }
 
-// 1 for each net that the side does not hold.
-fn without(side: &[u8; LONGEST_SIDE], places: usize) -> [u8; BYTE_VALUES]
-    requires { ⌜ places ≤ longestSide ⌝ }
-    ensures { λ r. ⌜ Lacks (held (entry (now (side .entry))) places) r ⌝ }
+// The greatest.
+fn highs<'a>(last: &'a [u8; NET_ENTRIES], far: &'a [u8; NET_ENTRIES], past: u8) -> [u8; NET_ENTRIES]
+    ensures { λ r. ⌜ PerNet 0 (λ m. highOf (at (now (last .entry)) m) (at (now (far .entry)) m) past) largestNet r ⌝ }
 {
-    let mut flags = all_nets();
-    let mut i: usize = 0;
-    while i < places {
-        let m = entry_of(side[i]);
-        flags[m] = 0;
-        i += 1;
+    let mut high = [0u8; NET_ENTRIES];
+    let mut m: usize = 0;
+    while m < LARGEST_NET {
+        m += 1;
+        high[m] = high_of(last[m], far[m], past);
     }
-    flags
+    high
 }
 
-// From the last column to the first, which pins are the last of their nets: `free` has the nets with no pin past the column.
-fn last_pins(
-    north: &[u8; LONGEST_SIDE],
-    south: &[u8; LONGEST_SIDE],
-    east: &[u8; LONGEST_SIDE],
-    n: usize,
-    w: usize,
-) -> Lasts
-    requires { ⌜ (n ≤ longestSide) × (w ≤ longestSide) ⌝ }
-    ensures { λ r. ⌜ Ended (now (north .entry)) (now (south .entry)) (now (east .entry)) n w 0 (r .north) (r .south) (r .free) ⌝ }
+// The entries of the nets that cross from one place to another.
+fn crossing<'a>(
+    low: &'a [u8; NET_ENTRIES],
+    high: &'a [u8; NET_ENTRIES],
+    list: &'a [u8; NET_ENTRIES],
+) -> [u8; NET_ENTRIES]
+    ensures { λ r. ⌜ PerNet nowhere (crossingAt (now (low .entry)) (now (high .entry)) (now (list .entry))) largestNet r ⌝ }
 {
-    let mut free = without(east, w);
-    let mut last_north = [0u8; LONGEST_SIDE];
-    let mut last_south = [0u8; LONGEST_SIDE];
-    let mut c = n;
-    while 0 < c {
-        c -= 1;
-        let m = entry_of(north[c]);
-        last_north[c] = free[m];
-        free[m] = 0;
-        let k = entry_of(south[c]);
-        last_south[c] = free[k];
-        free[k] = 0;
+    let mut out = [NOWHERE; NET_ENTRIES];
+    let mut m: usize = 0;
+    while m < LARGEST_NET {
+        m += 1;
+        out[m] = choose(low[m] < high[m], list[m], NOWHERE);
     }
-    Lasts {
-        north: last_north,
-        south: last_south,
-        free,
-    }
+    out
 }
 
-// How many nets have no flag in either table.
-fn count_unflagged(a: &[u8; BYTE_VALUES], b: &[u8; BYTE_VALUES]) -> u8
-    ensures { λ r. ⌜ r ≡ nets (λ m. eqb (max (at (now (a .entry)) m) (at (now (b .entry)) m)) 0) ⌝ }
+// How many nets begin before column 1.
+fn coming(from: &[u8; NET_ENTRIES]) -> u8
+    ensures { λ r. ⌜ r ≡ nets (λ m. eqb (at (now (from .entry)) m) 0) ⌝ }
 {
     let mut total: u8 = 0;
     let mut m: usize = 0;
     while m < LARGEST_NET {
         m += 1;
-        if larger_byte(a[m], b[m]) == 0 {
+        if from[m] == 0 {
             total += 1;
         }
     }
     total
 }
 
-// The nets that a column must pass: those that come to it (now) or begin there (f, g), less those that have all their pins there: they also
-// end there (x, y).
-fn passing(now: usize, f: u8, g: u8, x: u8, y: u8) -> usize
-    requires { ⌜ now ≤ largestNet ⌝ }
-    ensures { λ r. ⌜ r + (min f x + min g y) ≡ now + (f + g) ⌝ }
+fn one_if(b: bool) -> usize
+    ensures { λ r. ⌜ (r ≡ bit b) × (r ≤ 1) ⌝ }
 {
-    now + wide(f) + wide(g) - wide(smaller_byte(f, x)) - wide(smaller_byte(g, y))
+    if b { 1 } else { 0 }
 }
 
-// The nets that go on past a column: those that come to it or begin there, less those that end there.
-fn going_on(now: usize, f: u8, g: u8, x: u8, y: u8) -> usize
-    requires { ⌜ (now ≤ largestNet) × (x + y ≤ now + (f + g)) ⌝ }
-    ensures { λ r. ⌜ r + (x + y) ≡ now + (f + g) ⌝ }
+// How many of the nets m and k begin, or end, at column c.
+fn now_at(list: &[u8; NET_ENTRIES], m: usize, k: usize, c: usize) -> usize
+    requires { ⌜ (m ≤ largestNet) × (k ≤ largestNet) ⌝ }
+    ensures { λ r. ⌜ r ≡ nowAt (now (list .entry)) m k c ⌝ }
 {
-    now + wide(f) + wide(g) - wide(x) - wide(y)
+    one_if(wide(list[m]) == c) + one_if(both(m != k, wide(list[k]) == c))
 }
 
-// Across; of the sides exchanged, up. `fresh` has the nets with no pin before the column.
-fn density(
-    north: &[u8; LONGEST_SIDE],
-    south: &[u8; LONGEST_SIDE],
-    west: &[u8; LONGEST_SIDE],
-    east: &[u8; LONGEST_SIDE],
+// The largest number of nets that go over a column: those that begin at one of its two pins come in, those that end there go.
+fn peak<'a, 'b>(
+    a: &'b [u8; LONGEST_SIDE],
+    b: &'b [u8; LONGEST_SIDE],
+    from: &'a [u8; NET_ENTRIES],
+    to: &'a [u8; NET_ENTRIES],
     n: usize,
-    w: usize,
 ) -> usize
-    requires { ⌜ (n ≤ longestSide) × (w ≤ longestSide) ⌝ }
-    ensures { λ r. ⌜ (r ≡ across (upright n w 1)
-        (pinsOf (now (north .entry)) (now (south .entry)) (now (west .entry)) (now (east .entry)))) × (r ≤ largestNet) ⌝ }
+    requires { ⌜ (n ≤ longestSide) × Numbered (now a) × Numbered (now b) × EndsAt (now a) (now b) n (now from) (now to) ⌝ }
+    ensures { λ r. ⌜ r ≡ most (λ c. nets (goesOver (now (from .entry)) (now (to .entry)) c)) n ⌝ }
 {
-    let lasts = last_pins(north, south, east, n, w);
-    let last_north = lasts.north;
-    let last_south = lasts.south;
-    let free = lasts.free;
-    let mut fresh = without(west, w);
-    let mut now = wide(count_unflagged(&fresh, &free));
+    let mut now = wide(coming(from));
     let mut best: usize = 0;
     let mut c: usize = 0;
     while c < n {
-        let m = entry_of(north[c]);
-        let f = fresh[m];
-        fresh[m] = 0;
-        let k = entry_of(south[c]);
-        let g = fresh[k];
-        fresh[k] = 0;
-        let x = last_north[c];
-        let y = last_south[c];
-        best = larger(best, passing(now, f, g, x, y));
-        now = going_on(now, f, g, x, y);
+        let m = wide(a[c]);
+        let k = wide(b[c]);
         c += 1;
+        now += now_at(from, m, k, c);
+        best = larger(best, now);
+        now -= now_at(to, m, k, c);
     }
     best
 }
 
-// Up, of a box; a, b, c and d are its sides east, west, south and north.
-fn up_for(
-    kind: u8,
-    a: &[u8; LONGEST_SIDE],
-    b: &[u8; LONGEST_SIDE],
-    c: &[u8; LONGEST_SIDE],
-    d: &[u8; LONGEST_SIDE],
+// Across, where a and b are north and south, near and far the pins on west and east; up, where they are west and east, south and north.
+fn density<'a, 'b>(
+    a: &'b [u8; LONGEST_SIDE],
+    b: &'b [u8; LONGEST_SIDE],
+    first: &'a [u8; NET_ENTRIES],
+    last: &'a [u8; NET_ENTRIES],
+    near: &'a [u8; NET_ENTRIES],
+    far: &'a [u8; NET_ENTRIES],
     n: usize,
+) -> usize
+    requires { ⌜ AlongSides (now a) (now b) (now first) (now last) n ⌝ }
+    ensures { λ r. ⌜ Crossed (λ x. x) (now (a .entry)) (now (b .entry)) (now (near .entry)) (now (far .entry)) n r ⌝ }
+{
+    let past = n as u8 + 1;
+    let low = lows(first, near, far, past);
+    let high = highs(last, far, past);
+    let from = crossing(&low, &high, &low);
+    let to = crossing(&low, &high, &high);
+    peak(a, b, &from, &to, n)
+}
+
+// Up, of a box: a and b are its sides west and east, near and far the pins on south and north.
+fn up_for<'a, 'b>(
+    kind: u8,
+    a: &'b [u8; LONGEST_SIDE],
+    b: &'b [u8; LONGEST_SIDE],
+    first: &'a [u8; NET_ENTRIES],
+    last: &'a [u8; NET_ENTRIES],
+    near: &'a [u8; NET_ENTRIES],
+    far: &'a [u8; NET_ENTRIES],
     w: usize,
 ) -> usize
-    requires { ⌜ (n ≤ longestSide) × (w ≤ longestSide) ⌝ }
-    ensures { λ r. ⌜ (r ≡ byKind kind 0 0 0 (across (upright w n 1) (pinsOf (now (a .entry)) (now (b .entry)) (now (c .entry)) (now
-        (d .entry)))) 0) × (r ≤ largestNet) ⌝ }
+    requires { ⌜ AlongSides (now a) (now b) (now first) (now last) w ⌝ }
+    ensures { λ r. ⌜ Crossed (λ x. byKind kind 0 0 0 x 0) (now (a .entry)) (now (b .entry)) (now (near .entry)) (now (far .entry)) w r ⌝ }
 {
     if kind == BOX {
-        return density(a, b, c, d, w, n);
+        return density(a, b, first, last, near, far, w);
     }
     0
 }
@@ -227,9 +219,21 @@ fn floor_for(a: usize, b: usize) -> usize
     larger(1, larger(odd(a), larger(odd(b), a + b)))
 }
 
-// The figures of a good problem. (For our own crates.)
-pub fn figures_of(q: Problem) -> Figures
-    requires { ⌜ Good q ⌝ }
+// The figures of a good problem, by its table of spans: each net's first and last column, lowest and highest track, and pins on each side.
+// (For our own crates.)
+pub fn figures_of<'a>(
+    q: Problem,
+    first: &'a [u8; NET_ENTRIES],
+    last: &'a [u8; NET_ENTRIES],
+    norths: &'a [u8; NET_ENTRIES],
+    souths: &'a [u8; NET_ENTRIES],
+    low: &'a [u8; NET_ENTRIES],
+    high: &'a [u8; NET_ENTRIES],
+    wests: &'a [u8; NET_ENTRIES],
+    easts: &'a [u8; NET_ENTRIES],
+) -> Figures
+    requires { ⌜ Good q × SpansOf q (spansFrom (tablesOf (now norths) (now souths) (now first) (now last))
+        (tablesOf (now wests) (now easts) (now low) (now high))) ⌝ }
     ensures { λ r. ⌜ r ≡ figuresOf q ⌝ }
 {
     let kind = q.kind;
@@ -241,8 +245,8 @@ pub fn figures_of(q: Problem) -> Figures
     let east = q.pins.east;
     let long = column_count(n);
     let w = by_kind(kind, 1, 1, 1, byte2, 1);
-    let across = density(&north, &south, &west, &east, long, w);
-    let up = up_for(kind, &east, &west, &south, &north, long, w);
+    let across = density(&north, &south, first, last, wests, easts, long);
+    let up = up_for(kind, &west, &east, low, high, souths, norths, w);
     let tracks = tracks_for(byte2, across);
     let layers = layers_for(kind, n, byte2);
     let floor = floor_for(rounded_up(across, w), rounded_up(up, long));

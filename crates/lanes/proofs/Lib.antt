@@ -1,3 +1,2 @@
-pub mod Tables
 pub mod Wanting
 pub mod Placing

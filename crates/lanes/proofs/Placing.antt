@@ -18,7 +18,10 @@ use Rattle.switchbox_law.specs.Rules.{wanted}
 use Rattle.switchbox_law.specs.Drawing.{Lanes}
 use Rattle.lanes.specs.Tables.{mostLanes, Nets, tallies, Asked}
 use Rattle.lanes.specs.Placing.{Took, Listed, Distinct, Spread}
-use Rattle.lanes.proofs.Tables.{entry-at}
+
+entry-at : (xs : List ℕ) (j : ℕ) → 1 ≤ j → entry xs j ≡ getD xs (j - 1) 0
+entry-at xs zero h = absurd (omega arith)
+entry-at xs (suc j) h = ap (λ (i : ℕ). getD xs i 0) (omega arith)
 
 -- a net stands at a place of the side
 pub within : (own : List ℕ) (i : ℕ) → getD own i 0 ≢ 0 → i < length own

@@ -10,6 +10,7 @@ use native.Mathlib.Decide.{ℕ-discrete}
 use lib.Dec.{leb, eqb}
 use lib.ListN.{length, getD, set}
 use lib.Seq.{getD-set-same, getD-set-other}
+use Rattle.counting.specs.Counting.{In}
 use Rattle.terms.specs.Limits.{netEntries, largestNet}
 use Rattle.terms.specs.Kinds.{north, south, west, east}
 use Rattle.switchbox_law.specs.Rules.{Tally, corner, alternate, gets, pair, wanted}
@@ -54,10 +55,11 @@ turned-more first z out k mine len b e old m l = by-cases (ℕ-discrete m k)
     (λ d. rw d (getD-set-same out (k + 1) mine false (omega arith) ∙ e))
     (λ d. getD-set-other out (k + 1) (m + 1) mine false (λ q. d (omega arith)) ∙ old m (omega (arith, d)))
 
-turn-same : (first : Bool) (z z′ : ℕ → Bool) (k : ℕ) → ((m : ℕ) → m < k + 1 → z m ≡ z′ m) → alternate first z k ≡ alternate first z′ k
+-- the turn after nets 1 to k goes by these
+pub turn-same : (first : Bool) (z z′ : ℕ → Bool) (k : ℕ) → ((m : ℕ) → In m k → z m ≡ z′ m) → alternate first z k ≡ alternate first z′ k
 unfolding alternate
 turn-same first z z′ zero e = refl
-turn-same first z z′ (suc k) e = rw (e (suc k) (omega arith), turn-same first z z′ k (λ m l. e m (omega arith)))
+turn-same first z z′ (suc k) e = rw (e (suc k) (omega arith), turn-same first z z′ k (λ m i. e m (omega arith)))
 
 -- a net is wanted if it gets a track alone, or is a pair whose turn it is
 pub wanted-by : (first : Bool) (t : ℕ → Tally) (alone pairs turn out : List Bool) → length out ≡ netEntries

@@ -2,19 +2,14 @@
 --
 --   mostLanes                 no box has more lanes
 --   Nets side                 a side, whose places hold nets or 0
---   Counted side n counts     entry m of counts is how many of the first n places hold m
---   Halved side n even odd    entries m of even and of odd are together how many of the first n places hold m
 --   tallies a b c d m         the pins of net m; a to d are the counts of north, south, west and east
 --   Asked ..                  lanes 1 to top are enough for the nets that get one, and there is one beside each place of the side `own`
 use Prim.Native.Nat.{ℕ, _+_, _-_, _*_, _≤_, _<_}
-use mathlib.Core.Path.{_≡_}
 use mathlib.Core.List.{List}
 use mathlib.Core.Bool.{Bool}
-use lib.Dec.{eqb}
 use lib.ListN.{length, getD}
-use Rattle.counting.specs.Counting.{count}
 use Rattle.terms.specs.Limits.{longestSide, largestNet, netEntries, byteValues}
-use Rattle.grid.specs.Legal.{entry, nets}
+use Rattle.grid.specs.Legal.{nets}
 use Rattle.switchbox_law.specs.Rules.{Tally, four, wanted}
 
 abbrev pub mostLanes : ℕ
@@ -23,12 +18,6 @@ mostLanes = 2 * longestSide
 pub record Nets (side : List ℕ) : Type 0 where
   pub short : length side ≤ longestSide
   pub small : (i : ℕ) → i < length side → getD side i 0 ≤ largestNet
-
-pub record Counted (side : List ℕ) (n : ℕ) (counts : List ℕ) : Type 0 where
-  pub is : (m : ℕ) → m < netEntries → getD counts m 0 ≡ count (λ a. eqb (entry side a) m) n
-
-pub record Halved (side : List ℕ) (n : ℕ) (even odd : List ℕ) : Type 0 where
-  pub is : (m : ℕ) → m < netEntries → getD even m 0 + getD odd m 0 ≡ count (λ a. eqb (entry side a) m) n
 
 abbrev pub tallies : List ℕ → List ℕ → List ℕ → List ℕ → ℕ → Tally
 tallies a b c d m = four (getD a m 0) (getD b m 0) (getD c m 0) (getD d m 0)

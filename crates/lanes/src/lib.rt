@@ -16,50 +16,11 @@ ghost use Rattle.counting.specs.Counting.{bit};
 ghost use Rattle.grid.specs.Legal.{entry, nets};
 ghost use Rattle.switchbox_law.specs.Rules.{four, gets, pair, alternate, wanted};
 ghost use Rattle.switchbox_law.specs.Drawing.{Lanes};
-ghost use Rattle.lanes.specs.Tables.{Nets, Counted, Halved, tallies, Asked, mostLanes};
+ghost use Rattle.lanes.specs.Tables.{Nets, tallies, Asked, mostLanes};
 ghost use Rattle.lanes.specs.Placing.{Took, Listed, Distinct, Spread};
 
 // No box has more lanes: the track layers have fewer tracks together than its two sides have places.
 pub const MOST_LANES: usize = 2 * LONGEST_SIDE;
-
-// How many pins each net has on a side, in two parts: at every second place, and in `odd` at the others. A count waits for its
-// last store, and most often two places that follow each other are empty; so these are counted apart.
-fn count_pairs(side: &[u8], odd: &mut [u8; NET_ENTRIES]) -> [u8; NET_ENTRIES]
-    requires { ⌜ Nets (now side) × (length (now odd) ≡ netEntries) × ((m : ℕ) → m < netEntries → getD (now odd) m 0 ≡ 0) ⌝ }
-    ensures { λ r. ⌜ Halved (now (side .entry)) (length (now (side .entry))) r (now (odd .exit)) ⌝ }
-{
-    let mut even: [u8; NET_ENTRIES] = [0; NET_ENTRIES];
-    let mut i: usize = 0;
-    while i + 1 < side.len() {
-        let a = wide(side[i]);
-        even[a] = even[a] + 1;
-        let b = wide(side[i + 1]);
-        odd[b] = odd[b] + 1;
-        i += 2;
-    }
-    if i < side.len() {
-        let a = wide(side[i]);
-        even[a] = even[a] + 1;
-        return even;
-    }
-    even
-}
-
-// How many pins each net has on a side; entry 0 counts the empty places.
-pub fn count_side(side: &[u8]) -> [u8; NET_ENTRIES]
-    requires { ⌜ Nets (now side) ⌝ }
-    ensures { λ r. ⌜ Counted (now (side .entry)) (length (now (side .entry))) r ⌝ }
-{
-    let mut odd: [u8; NET_ENTRIES] = [0; NET_ENTRIES];
-    let even = count_pairs(side, &mut odd);
-    let mut counts: [u8; NET_ENTRIES] = [0; NET_ENTRIES];
-    let mut k: usize = 0;
-    while k < NET_ENTRIES {
-        counts[k] = even[k] + odd[k];
-        k += 1;
-    }
-    counts
-}
 
 // On just two sides that meet in a corner: a and b pins there, c and d on the sides across.
 pub fn is_corner(a: u8, b: u8, c: u8, d: u8) -> bool
@@ -94,11 +55,11 @@ fn next_turn(takes: bool, mine: bool) -> bool
 
 // Entry m says whether net m is a pair; a to d are the counts of north, south, west and east. Here and in who_alone no net
 // waits for another, so that the compiler treats many at a time.
-fn who_pairs(
-    a: &[u8; NET_ENTRIES],
-    b: &[u8; NET_ENTRIES],
-    c: &[u8; NET_ENTRIES],
-    d: &[u8; NET_ENTRIES],
+fn who_pairs<'a>(
+    a: &'a [u8; NET_ENTRIES],
+    b: &'a [u8; NET_ENTRIES],
+    c: &'a [u8; NET_ENTRIES],
+    d: &'a [u8; NET_ENTRIES],
 ) -> [bool; NET_ENTRIES]
     ensures { λ r. ⌜ ((m : ℕ) → m < netEntries → getD r m false ≡ pair
         (tallies (now (a .entry)) (now (b .entry)) (now (c .entry)) (now (d .entry)) m)) ⌝ }
@@ -113,11 +74,11 @@ fn who_pairs(
 }
 
 // Entry m says whether net m gets a track even where it has no turn.
-fn who_alone(
-    a: &[u8; NET_ENTRIES],
-    b: &[u8; NET_ENTRIES],
-    c: &[u8; NET_ENTRIES],
-    d: &[u8; NET_ENTRIES],
+fn who_alone<'a>(
+    a: &'a [u8; NET_ENTRIES],
+    b: &'a [u8; NET_ENTRIES],
+    c: &'a [u8; NET_ENTRIES],
+    d: &'a [u8; NET_ENTRIES],
 ) -> [bool; NET_ENTRIES]
     requires { ⌜ ((m : ℕ) → m < netEntries → getD (now a) m 0 + getD (now b) m 0 ≤ byteValues - 1) ⌝ }
     ensures { λ r. ⌜ ((m : ℕ) → m < netEntries → getD r m false ≡ gets
@@ -167,11 +128,11 @@ fn alone_or_turn(
 }
 
 // Entry m says whether net m gets a track; 0 is no net.
-fn who_needs(
-    a: &[u8; NET_ENTRIES],
-    b: &[u8; NET_ENTRIES],
-    c: &[u8; NET_ENTRIES],
-    d: &[u8; NET_ENTRIES],
+fn who_needs<'a>(
+    a: &'a [u8; NET_ENTRIES],
+    b: &'a [u8; NET_ENTRIES],
+    c: &'a [u8; NET_ENTRIES],
+    d: &'a [u8; NET_ENTRIES],
     first: bool,
 ) -> [bool; NET_ENTRIES]
     requires { ⌜ ((m : ℕ) → m < netEntries → getD (now a) m 0 + getD (now b) m 0 ≤ byteValues - 1) ⌝ }
@@ -292,11 +253,11 @@ fn fill_spare(
 
 // The tracks of a box, lanes 1 to top, from the counts of north, south, west and east and from the west side. (With the
 // counts of east, west, south and north and with the south side: its columns.)
-pub fn lanes(
-    a: &[u8; NET_ENTRIES],
-    b: &[u8; NET_ENTRIES],
-    c: &[u8; NET_ENTRIES],
-    d: &[u8; NET_ENTRIES],
+pub fn lanes<'a>(
+    a: &'a [u8; NET_ENTRIES],
+    b: &'a [u8; NET_ENTRIES],
+    c: &'a [u8; NET_ENTRIES],
+    d: &'a [u8; NET_ENTRIES],
     own: &[u8],
     top: usize,
     first: bool,

@@ -3,7 +3,7 @@
 --
 --   bit b                   a yes is 1, a no is 0
 --   readEntries a           Read's answer: number, place, kind, n, byte 2, nets
---   surveyEntries a         Survey's answer: number, place, kind, n, w, nets, across, up, layers, floor
+--   surveyEntries a         Survey's answer: number, place, kind, n, w, nets, pins, across, up, layers, floor
 --   layEntries a            Lay's answer: number, place, kind, n, w, k, first, nets, across, up, floor
 --   checkEntries a          Check's answer: number, place
 --   viewEntries x n w k l   Layer view's answer: number, place, start, length
@@ -34,7 +34,8 @@ readEntries a = a .refusal .number ∷ a .refusal .place ∷ a .kind ∷ a .n .0
 
 abbrev pub surveyEntries : SurveyAnswer → List ℕ
 surveyEntries a =
-    a .refusal .number ∷ a .refusal .place ∷ a .kind ∷ a .n .0 ∷ a .w .0 ∷ a .nets ∷ a .across ∷ a .up ∷ a .layers .0 ∷ a .floor .0 ∷ []
+    a .refusal .number ∷ a .refusal .place ∷ a .kind ∷ a .n .0 ∷ a .w .0 ∷ a .nets ∷ a .pins ∷ a .across ∷ a .up ∷ a .layers .0
+    ∷ a .floor .0 ∷ []
 
 abbrev pub layEntries : LayAnswer → List ℕ
 layEntries a =

@@ -19,6 +19,17 @@ ghost use Rattle.router.specs.Lay.{layOf, Lays};
 ghost use Rattle.pozqaben.specs.Answers.{bit, readEntries, surveyEntries, layEntries, checkEntries, viewEntries, partTold};
 ghost use Rattle.pozqaben.specs.Answers.{Answered, Tells};
 
+// How many entries each call writes.
+const READ_ENTRIES: usize = 6;
+
+const SURVEY_ENTRIES: usize = 11;
+
+const LAY_ENTRIES: usize = 11;
+
+const CHECK_ENTRIES: usize = 2;
+
+const LAYER_VIEW_ENTRIES: usize = 4;
+
 // Stores the entries at the array's start.
 fn put(answer: &mut [u64], entries: &[u64])
     requires { ⌜ length (now entries) ≤ length (now answer) ⌝ }
@@ -29,7 +40,7 @@ fn put(answer: &mut [u64], entries: &[u64])
     }
 }
 
-fn read_entries(a: ReadAnswer) -> [u64; 6]
+fn read_entries(a: ReadAnswer) -> [u64; READ_ENTRIES]
     ensures { λ r. ⌜ r ≡ readEntries a ⌝ }
 {
     [
@@ -47,7 +58,7 @@ fn read_entries(a: ReadAnswer) -> [u64; 6]
 pub extern "C" fn pozqaben_read(ticket: &[u8], answer: &mut [u64]) -> bool
     ensures { λ r. ⌜ Answered (readEntries (readOf (now (ticket .entry)))) (now (answer .entry)) r (now (answer .exit)) ⌝ }
 {
-    if answer.len() < 6 {
+    if answer.len() < READ_ENTRIES {
         return false;
     }
     let entries = read_entries(ticket::read(ticket));
@@ -55,7 +66,7 @@ pub extern "C" fn pozqaben_read(ticket: &[u8], answer: &mut [u64]) -> bool
     true
 }
 
-fn survey_entries(a: SurveyAnswer) -> [u64; 10]
+fn survey_entries(a: SurveyAnswer) -> [u64; SURVEY_ENTRIES]
     ensures { λ r. ⌜ r ≡ surveyEntries a ⌝ }
 {
     [
@@ -65,6 +76,7 @@ fn survey_entries(a: SurveyAnswer) -> [u64; 10]
         a.n.0 as u64,
         a.w.0 as u64,
         a.nets as u64,
+        a.pins as u64,
         a.across as u64,
         a.up as u64,
         a.layers.0 as u64,
@@ -72,12 +84,12 @@ fn survey_entries(a: SurveyAnswer) -> [u64; 10]
     ]
 }
 
-// Survey: number, place, kind, n, w, nets, across, up, layers, floor.
+// Survey: number, place, kind, n, w, nets, pins, across, up, layers, floor.
 #[no_mangle]
 pub extern "C" fn pozqaben_survey(ticket: &[u8], answer: &mut [u64]) -> bool
     ensures { λ r. ⌜ Answered (surveyEntries (surveyOf (now (ticket .entry)))) (now (answer .entry)) r (now (answer .exit)) ⌝ }
 {
-    if answer.len() < 10 {
+    if answer.len() < SURVEY_ENTRIES {
         return false;
     }
     let entries = survey_entries(survey::survey(ticket));
@@ -91,7 +103,7 @@ fn bit(b: bool) -> u64
     if b { 1 } else { 0 }
 }
 
-fn lay_entries(a: LayAnswer) -> [u64; 11]
+fn lay_entries(a: LayAnswer) -> [u64; LAY_ENTRIES]
     ensures { λ r. ⌜ r ≡ layEntries a ⌝ }
 {
     [
@@ -118,7 +130,7 @@ pub extern "C" fn pozqaben_lay(ticket: &[u8], wiring: &mut [u8], answer: &mut [u
     ensures lays { λ r. ⌜ (r ≡ true → Lays (now (ticket .entry)) (now (wiring .entry)) (now (wiring .exit))
         (layOf (now (ticket .entry)) (length (now (wiring .entry))))) ⌝ }
 {
-    if answer.len() < 11 {
+    if answer.len() < LAY_ENTRIES {
         return false;
     }
     let entries = lay_entries(router::lay(ticket, wiring));
@@ -126,7 +138,7 @@ pub extern "C" fn pozqaben_lay(ticket: &[u8], wiring: &mut [u8], answer: &mut [u
     true
 }
 
-fn check_entries(a: Refusal) -> [u64; 2]
+fn check_entries(a: Refusal) -> [u64; CHECK_ENTRIES]
     ensures { λ r. ⌜ r ≡ checkEntries a ⌝ }
 {
     [a.number as u64, a.place as u64]
@@ -147,7 +159,7 @@ pub extern "C" fn pozqaben_check(
         (now (scratch .exit)) (now (answer .entry)) r (now (answer .exit)) ⌝ }
     ensures short { λ r. ⌜ (r ≡ false → now (scratch .exit) ≡ now (scratch .entry)) ⌝ }
 {
-    if answer.len() < 2 {
+    if answer.len() < CHECK_ENTRIES {
         return false;
     }
     let entries = check_entries(checker::check(ticket, Track(w), Layer(k), first, wiring, scratch));
@@ -155,7 +167,13 @@ pub extern "C" fn pozqaben_check(
     true
 }
 
-fn view_entries(wiring: &[u8], n: Column, w: Track, k: Layer, layer: Layer) -> [u64; 4]
+fn view_entries(
+    wiring: &[u8],
+    n: Column,
+    w: Track,
+    k: Layer,
+    layer: Layer,
+) -> [u64; LAYER_VIEW_ENTRIES]
     ensures { λ r. ⌜ r ≡ viewEntries (now (wiring .entry)) (n .0) (w .0) (k .0) (layer .0) ⌝ }
 {
     let refusal = view::layer_view_refusal(wiring, n, w, k, layer);
@@ -186,7 +204,7 @@ pub extern "C" fn pozqaben_layer_view(
     ensures part { λ r. ⌜ (r ≡ true → partTold (now (wiring .entry)) (now (answer .exit)) ≡ viewPart (now
         (wiring .entry)) n w k layer) ⌝ }
 {
-    if answer.len() < 4 {
+    if answer.len() < LAYER_VIEW_ENTRIES {
         return false;
     }
     let entries = view_entries(wiring, Column(n), Track(w), Layer(k), Layer(layer));

@@ -243,6 +243,9 @@ module _ (q : Problem) where
         room = subst₂ (λ (u v : ℕ). n * u * v ≤ length wiring) (sym same) (box-layers e ∙ ap (boxLayers n) (sym (same ∙ box-tracks e))) room;
       }
 
+      pub box-wide : kind ≡ box → w ≡ widthOf q
+      box-wide e = same ∙ box-tracks e ∙ sym (box-width e)
+
     module _ (w : ℕ) (same : w ≡ tracks) {before after : List ℕ} where
       thin-laid : (k : ℕ) → Thin kind → layers ≡ k → Laid (upright n w k) (columnPins (q .pins .north) (q .pins .south)) before after
           → Laid (laidGrid (laidAnswer q)) p before after

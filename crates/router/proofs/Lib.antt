@@ -1,4 +1,5 @@
 pub mod Few
 pub mod Laws
+pub mod Tables
 pub mod TwoLayer
 pub mod Promise

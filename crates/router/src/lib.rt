@@ -6,6 +6,7 @@ use grid::Track;
 use problem::Problem;
 use terms::BOX;
 use terms::CHANNEL;
+use terms::NET_ENTRIES;
 use terms::ROW;
 use terms::Refusal;
 use terms::TWO_LAYER;
@@ -15,8 +16,9 @@ ghost use mathlib.Core.Path.{_≡_};
 ghost use mathlib.Core.Logic.{_≢_};
 ghost use Prim.Native.Nat.{_≤_};
 ghost use lib.ListN.{length};
-ghost use Rattle.terms.specs.Kinds.{twoLayer};
+ghost use Rattle.terms.specs.Kinds.{north, south, twoLayer};
 ghost use Rattle.problem.specs.Problem.{pinsIn, Good};
+ghost use Rattle.nets.specs.Tables.{pinCountTo, NetTable, Spanned};
 ghost use Rattle.figures.specs.Figures.{figuresOf};
 ghost use Rattle.grid.specs.Laid.{Laid};
 ghost use Rattle.router.specs.Lay.{firstOf, laidWidth, needed, answered, laidAnswer, refused, laidGrid, Lays, Outcome};
@@ -83,8 +85,19 @@ fn answered(refusal: Refusal, q: Problem, f: Figures, w: Track) -> LayAnswer
 }
 
 // Lays a good problem of a row, a channel or a box into a buffer that is long enough.
-fn draw(q: Problem, w: Track, wiring: &mut [u8])
+fn draw<'a>(
+    q: Problem,
+    first: &'a [u8; NET_ENTRIES],
+    last: &'a [u8; NET_ENTRIES],
+    norths: &'a [u8; NET_ENTRIES],
+    souths: &'a [u8; NET_ENTRIES],
+    wests: &'a [u8; NET_ENTRIES],
+    easts: &'a [u8; NET_ENTRIES],
+    w: Track,
+    wiring: &mut [u8],
+)
     requires { ⌜ Good q × (q .kind ≢ twoLayer) × (w .0 ≡ laidWidth q) × (needed q ≤ length (now wiring)) ⌝ }
+    requires { ⌜ Spanned q (now first) (now last) (now norths) (now souths) (now wests) (now easts) ⌝ }
     ensures { λ _. ⌜ Laid (laidGrid (laidAnswer q)) (pinsIn (q .pins)) (now (wiring .entry)) (now (wiring .exit)) ⌝ }
 {
     let kind = q.kind;
@@ -95,21 +108,70 @@ fn draw(q: Problem, w: Track, wiring: &mut [u8])
     let west = q.pins.west;
     let east = q.pins.east;
     if kind == ROW {
-        channel::lay_row(&north, &south, n, w, third, wiring);
+        channel::lay_row(
+            &north,
+            &south,
+            first,
+            last,
+            norths,
+            souths,
+            wests,
+            easts,
+            n,
+            w,
+            third,
+            wiring,
+        );
         return;
     }
     if kind == CHANNEL {
-        channel::lay_channel(&north, &south, n, w, third, wiring);
+        channel::lay_channel(
+            &north,
+            &south,
+            first,
+            last,
+            norths,
+            souths,
+            wests,
+            easts,
+            n,
+            w,
+            third,
+            wiring,
+        );
         return;
     }
     if kind == BOX {
-        switchbox::lay_box(&north, &south, &west, &east, n, w, wiring);
+        switchbox::lay_box(
+            &north,
+            &south,
+            &west,
+            &east,
+            norths,
+            souths,
+            wests,
+            easts,
+            n,
+            w,
+            wiring,
+        );
     }
 }
 
 // A row, a channel or a box: its tracks are among its figures.
-fn lay_by_figures(q: Problem, f: Figures, wiring: &mut [u8]) -> LayAnswer
+fn lay_by_figures<'a>(
+    q: Problem,
+    f: Figures,
+    first: &'a [u8; NET_ENTRIES],
+    last: &'a [u8; NET_ENTRIES],
+    norths: &'a [u8; NET_ENTRIES],
+    souths: &'a [u8; NET_ENTRIES],
+    wests: &'a [u8; NET_ENTRIES],
+    easts: &'a [u8; NET_ENTRIES],
+    wiring: &mut [u8],
+) -> LayAnswer
     requires { ⌜ Good q × (q .kind ≢ twoLayer) × (f ≡ figuresOf q) ⌝ }
+    requires { ⌜ Spanned q (now first) (now last) (now norths) (now souths) (now wests) (now easts) ⌝ }
     ensures { λ r. ⌜ Outcome q (now (wiring .entry)) (now (wiring .exit)) r ⌝ }
 {
     let w = f.w;
@@ -117,19 +179,27 @@ fn lay_by_figures(q: Problem, f: Figures, wiring: &mut [u8]) -> LayAnswer
     if wiring.len() < size {
         return refused(refuse(10, size));
     }
-    draw(q, w, wiring);
+    draw(q, first, last, norths, souths, wests, easts, w, wiring);
     answered(refuse(0, 0), q, f, w)
 }
 
 // A two-layer channel: its operations tell whether it is solid, and its tracks.
-fn lay_two_layer(q: Problem, f: Figures, wiring: &mut [u8]) -> LayAnswer
+fn lay_two_layer<'a>(
+    q: Problem,
+    f: Figures,
+    norths: &'a [u8; NET_ENTRIES],
+    souths: &'a [u8; NET_ENTRIES],
+    wiring: &mut [u8],
+) -> LayAnswer
     requires { ⌜ Good q × (q .kind ≡ twoLayer) × (f ≡ figuresOf q) ⌝ }
+    requires { ⌜ NetTable (pinCountTo (pinsIn (q .pins) north) (q .n .0)) (now norths) ×
+        NetTable (pinCountTo (pinsIn (q .pins) south) (q .n .0)) (now souths) ⌝ }
     ensures { λ r. ⌜ Outcome q (now (wiring .entry)) (now (wiring .exit)) r ⌝ }
 {
     let n = q.n;
     let north = q.pins.north;
     let south = q.pins.south;
-    let plan = two_layer_plan::find_plan(&north, &south, n);
+    let plan = two_layer_plan::find_plan(&north, &south, norths, souths, n);
     if plan.solid {
         return refused(refuse(17, 0));
     }
@@ -148,15 +218,35 @@ fn lay_two_layer(q: Problem, f: Figures, wiring: &mut [u8]) -> LayAnswer
 pub fn lay(ticket: &[u8], wiring: &mut [u8]) -> LayAnswer
     ensures { λ r. ⌜ Lays (now (ticket .entry)) (now (wiring .entry)) (now (wiring .exit)) r ⌝ }
 {
-    let t = ticket::parse(ticket);
+    let t = ticket::parse_spans(ticket);
     let refusal = t.refusal;
     if refusal.number != 0 {
         return refused(refusal);
     }
     let q = t.problem;
-    let f = figures::figures_of(q);
+    let f = figures::figures_of(
+        q,
+        &t.spans.columns.first,
+        &t.spans.columns.last,
+        &t.spans.columns.one,
+        &t.spans.columns.two,
+        &t.spans.tracks.first,
+        &t.spans.tracks.last,
+        &t.spans.tracks.one,
+        &t.spans.tracks.two,
+    );
     if q.kind == TWO_LAYER {
-        return lay_two_layer(q, f, wiring);
+        return lay_two_layer(q, f, &t.spans.columns.one, &t.spans.columns.two, wiring);
     }
-    lay_by_figures(q, f, wiring)
+    lay_by_figures(
+        q,
+        f,
+        &t.spans.columns.first,
+        &t.spans.columns.last,
+        &t.spans.columns.one,
+        &t.spans.columns.two,
+        &t.spans.tracks.one,
+        &t.spans.tracks.two,
+        wiring,
+    )
 }

@@ -5,9 +5,10 @@
 --   spelled fuel x   the same, where x has no more digits than fuel
 --   field words x    words and then a number
 --   begins kind      the kind's word, and "length"
+--   counted a        "distinct nets", "`pins P` (all of them) after the nets", "across"
 --   boxLine a        "(n, w, distinct nets, across, up, layers Lay uses, floor)"
 --   trunkLine words a
---                    the line of a row or a channel, which begins with words; "row length 6 nets 3 across 2 tracks 2 layers 2"
+--                    the line of a row or a channel, which begins with words; "row length 6 nets 3 pins 6 across 2 tracks 2 layers 2"
 --   twoLayerLine a   "Survey prints `two-layer` and no tracks, and layers 2 even for a solid one"
 --   refusedLine a    "refused 9 at 1"
 --   lineFor a, lineOf s
@@ -49,22 +50,20 @@ field words x = text words ++ decimal x
 abbrev pub begins : ℕ → List ℕ
 begins kind = text (word kind) ++ text " length "
 
+abbrev pub counted : SurveyAnswer → List ℕ
+counted a = field " nets " (a .nets) ++ field " pins " (a .pins) ++ field " across " (a .across)
+
 abbrev pub boxLine : SurveyAnswer → List ℕ
 boxLine a =
-    (begins box ++ decimal (a .n .0)) ++ field " width " (a .w .0) ++ field " nets " (a .nets) ++ field " across "
-    (a .across) ++ field " up " (a .up)
+    (begins box ++ decimal (a .n .0)) ++ field " width " (a .w .0) ++ counted a ++ field " up " (a .up)
     ++ field " layers " (a .layers .0) ++ field " floor " (a .floor .0) ++ text "\n"
 
 abbrev pub trunkLine : List ℕ → SurveyAnswer → List ℕ
 trunkLine words a =
-    (words ++ decimal (a .n .0)) ++ field " nets " (a .nets) ++ field " across " (a .across) ++ field " tracks "
-    (a .w .0) ++ field " layers " (a .layers .0)
-    ++ text "\n"
+    (words ++ decimal (a .n .0)) ++ counted a ++ field " tracks " (a .w .0) ++ field " layers " (a .layers .0) ++ text "\n"
 
 abbrev pub twoLayerLine : SurveyAnswer → List ℕ
-twoLayerLine a =
-    (begins twoLayer ++ decimal (a .n .0)) ++ field " nets " (a .nets) ++ field " across " (a .across) ++ field " layers "
-    (a .layers .0) ++ text "\n"
+twoLayerLine a = (begins twoLayer ++ decimal (a .n .0)) ++ counted a ++ field " layers " (a .layers .0) ++ text "\n"
 
 abbrev pub refusedLine : SurveyAnswer → List ℕ
 refusedLine a = field "refused " (a .refusal .number) ++ field " at " (a .refusal .place) ++ text "\n"
@@ -78,7 +77,7 @@ abbrev pub lineOf : List ℕ → List ℕ
 lineOf s = lineFor (surveyOf s)
 
 abbrev pub longestLine : ℕ
-longestLine = 192
+longestLine = 224
 
 unfoldable pub lineOver : List ℕ → List ℕ → List ℕ
 lineOver l out = cond (leb (length l) (length out)) (l ++ drop (length l) out) out

@@ -15,7 +15,8 @@ ghost use Prim.Native.Nat.{_+_, _≤_, _<_};
 ghost use mathlib.Core.List.{[], _∷_, _++_};
 ghost use lib.ListN.{length, take, drop};
 ghost use Rattle.survey.specs.Survey.{answered, refused, surveyOf};
-ghost use Rattle.survey.specs.Line.{decimal, boxLine, trunkLine, twoLayerLine, refusedLine, lineFor, longestLine, Lined, Says, Adds};
+ghost use Rattle.survey.specs.Line.{decimal, counted, boxLine, trunkLine, twoLayerLine, refusedLine, lineFor, longestLine};
+ghost use Rattle.survey.specs.Line.{Lined, Says, Adds};
 
 pub struct SurveyAnswer {
     pub refusal: Refusal,
@@ -23,6 +24,7 @@ pub struct SurveyAnswer {
     pub n: Column,
     pub w: Track,
     pub nets: u8,
+    pub pins: usize,
     pub across: usize,
     pub up: usize,
     pub layers: Layer,
@@ -38,6 +40,7 @@ fn refused(refusal: Refusal) -> SurveyAnswer
         n: Column(0),
         w: Track(0),
         nets: 0,
+        pins: 0,
         across: 0,
         up: 0,
         layers: Layer(0),
@@ -45,8 +48,8 @@ fn refused(refusal: Refusal) -> SurveyAnswer
     }
 }
 
-fn answered(q: Problem, f: Figures) -> SurveyAnswer
-    ensures { λ r. ⌜ r ≡ answered q f ⌝ }
+fn answered(q: Problem, f: Figures, pins: usize) -> SurveyAnswer
+    ensures { λ r. ⌜ r ≡ answered q f pins ⌝ }
 {
     let n = q.n;
     let w = f.w;
@@ -61,6 +64,7 @@ fn answered(q: Problem, f: Figures) -> SurveyAnswer
         n,
         w,
         nets: q.nets,
+        pins,
         across: f.across,
         up: f.up,
         layers,
@@ -72,16 +76,33 @@ fn answered(q: Problem, f: Figures) -> SurveyAnswer
 pub fn survey(ticket: &[u8]) -> SurveyAnswer
     ensures { λ r. ⌜ r ≡ surveyOf (now (ticket .entry)) ⌝ }
 {
-    let t = ticket::parse(ticket);
+    let t = ticket::parse_spans(ticket);
     let refusal = t.refusal;
     if refusal.number != 0 {
         return refused(refusal);
     }
     let q = t.problem;
-    answered(q, figures::figures_of(q))
+    let figures = figures::figures_of(
+        q,
+        &t.spans.columns.first,
+        &t.spans.columns.last,
+        &t.spans.columns.one,
+        &t.spans.columns.two,
+        &t.spans.tracks.first,
+        &t.spans.tracks.last,
+        &t.spans.tracks.one,
+        &t.spans.tracks.two,
+    );
+    let pins = nets::pin_total(
+        &t.spans.columns.one,
+        &t.spans.columns.two,
+        &t.spans.tracks.one,
+        &t.spans.tracks.two,
+    );
+    answered(q, figures, pins)
 }
 
-pub const LONGEST_LINE: usize = 192;
+pub const LONGEST_LINE: usize = 224;
 
 // A line as it is built: its first `used` bytes.
 struct Line {
@@ -153,14 +174,24 @@ fn field(line: Line, words: &[u8], x: usize) -> Line
     number(word(line, words), x)
 }
 
+// What every line has: nets, pins and across.
+fn counts(line: Line, a: SurveyAnswer) -> Line
+    requires { ⌜ line .used + 80 ≤ longestLine ⌝ }
+    ensures { λ r. ⌜ Adds line (counted a) r ⌝ }
+    ensures { λ r. ⌜ r .used ≤ line .used + 80 ⌝ }
+{
+    let line = field(line, b" nets ", wide(a.nets));
+    let line = field(line, b" pins ", a.pins);
+    field(line, b" across ", a.across)
+}
+
 fn box_line(a: SurveyAnswer) -> Line
     ensures { λ r. ⌜ Says r (boxLine a) ⌝ }
     ensures { λ r. ⌜ r .used ≤ longestLine ⌝ }
 {
     let line = field(blank(), b"box length ", a.n.0);
     let line = field(line, b" width ", a.w.0);
-    let line = field(line, b" nets ", wide(a.nets));
-    let line = field(line, b" across ", a.across);
+    let line = counts(line, a);
     let line = field(line, b" up ", a.up);
     let line = field(line, b" layers ", a.layers.0);
     let line = field(line, b" floor ", a.floor.0);
@@ -174,8 +205,7 @@ fn trunk_line(a: SurveyAnswer, words: &[u8]) -> Line
     ensures { λ r. ⌜ r .used ≤ longestLine ⌝ }
 {
     let line = field(blank(), words, a.n.0);
-    let line = field(line, b" nets ", wide(a.nets));
-    let line = field(line, b" across ", a.across);
+    let line = counts(line, a);
     let line = field(line, b" tracks ", a.w.0);
     let line = field(line, b" layers ", a.layers.0);
     put(line, b'\n')
@@ -187,8 +217,7 @@ fn two_layer_line(a: SurveyAnswer) -> Line
     ensures { λ r. ⌜ r .used ≤ longestLine ⌝ }
 {
     let line = field(blank(), b"two-layer length ", a.n.0);
-    let line = field(line, b" nets ", wide(a.nets));
-    let line = field(line, b" across ", a.across);
+    let line = counts(line, a);
     let line = field(line, b" layers ", a.layers.0);
     put(line, b'\n')
 }

@@ -7,32 +7,35 @@ use mathlib.Core.Bool.{Bool, true, false}
 use native.Mathlib.Omega.{arith}
 use native.Mathlib.Nat.{add-mul, mul-le-mul-right}
 use lib.Dec.{eqb}
-use lib.ListN.{length, take}
+use lib.ListN.{length, getD, take}
 use lib.Seq.{getD-take, length-take-le}
 use Rattle.counting.specs.Counting.{In, ceil}
 use Rattle.counting.proofs.Counts.{count-same, count-le, ceil-le, round-up}
 use Rattle.terms.specs.Kinds.{Side, north, south, west, east}
-use Rattle.terms.specs.Limits.{largestNet, longestSide}
+use Rattle.terms.specs.Limits.{largestNet, longestSide, netEntries}
 use Rattle.grid.specs.Legal.{entry, pinsOf}
-use Rattle.switchbox_law.specs.Rules.{Tally, tally, pair, alternate, wanted, needsTrack, diagonal, needsColumn}
+use Rattle.switchbox_law.specs.Rules.{Tally, tally, pair, wanted, needsTrack, diagonal, needsColumn}
 use Rattle.switchbox_law.specs.Drawing.{Lanes, BoxLaid}
 use Rattle.switchbox_law.proofs.Enough.{enough-tracks, enough-columns}
 use Rattle.switchbox_law.proofs.FullLines.{drawn}
-use Rattle.lanes.specs.Tables.{tallies, Asked}
-use Rattle.switchbox.specs.Box.{standing, Canonical}
+use Rattle.nets.specs.Tables.{pinCountTo, NetTable}
+use Rattle.lanes.specs.Tables.{Nets, tallies, Asked}
+use Rattle.lanes.proofs.Wanting.{turn-same}
+use Rattle.switchbox.specs.Box.{standing, Upright, Canonical}
 use Rattle.switchbox.specs.Layers.{boxLines, Drawable}
 use Rattle.switchbox.proofs.Counts.{table-b, table-d}
 
 -- what is wanted of the nets up to m goes by their pins
-turn-same : (first : Bool) (z z′ : ℕ → Bool) (k : ℕ) → ((j : ℕ) → j ≤ k → z j ≡ z′ j) → alternate first z k ≡ alternate first z′ k
-unfolding alternate
-turn-same first z z′ zero h = refl
-turn-same first z z′ (suc k) h = rw (h (suc k) (omega arith), turn-same first z z′ k (λ j l. h j (omega arith)))
-
-wanted-same : (first : Bool) (t t′ : ℕ → Tally) (m : ℕ) → ((j : ℕ) → j ≤ m → t j ≡ t′ j) → wanted first t m ≡ wanted first t′ m
+wanted-same : (first : Bool) (t t′ : ℕ → Tally) (m : ℕ) → ((j : ℕ) → In j m → t j ≡ t′ j) → wanted first t m ≡ wanted first t′ m
 wanted-same first t t′ zero h = refl
 wanted-same first t t′ (suc k) h =
     rw (h (suc k) (omega arith), turn-same first (λ m. pair (t m)) (λ m. pair (t′ m)) k (λ j l. ap pair (h j (omega arith))))
+
+-- no net has more pins on a side than it has places
+few-pins : (xs counts : List ℕ) (m : ℕ) → Nets xs → NetTable (pinCountTo (entry xs) (length xs)) counts → m < netEntries
+    → getD counts m 0 ≤ longestSide
+few-pins xs counts zero h t l = omega (arith, t .none)
+few-pins xs counts (suc m) h t l = omega (arith, t .is (suc m) (omega arith), count-le (λ i. eqb (entry xs i) (suc m)) (length xs), h .short)
 
 -- lanes by the same rule, and as entries of a list's first k
 lanes-same : {want want′ : ℕ → Bool} {own : ℕ → ℕ} {w k : ℕ} (s : List ℕ) → ((m : ℕ) → In m largestNet → want m ≡ want′ m) → w ≤ k
@@ -49,24 +52,27 @@ lanes-same {want} {want′} {own} {w} {k} s same le d = record {
     here (suc i) h = getD-take k s i 0 (omega arith)
 
 module _ {a b c d ca cb cc′ cd before : List ℕ} (box : Canonical a b c d ca cb cc′ cd before) where
-  north-counts : (m : ℕ) → m < suc largestNet → tallies ca cb cc′ cd m ≡ tally (standing (length a) (length c)) (pinsOf a b c d) m
+  abbrev up : Upright a b c d ca cb cc′ cd before
+  up = box .upright
+
+  north-counts : (m : ℕ) → In m largestNet → tallies ca cb cc′ cd m ≡ tally (standing (length a) (length c)) (pinsOf a b c d) m
   north-counts m h = fun-ext go
     where
       go : (s : Side) → tallies ca cb cc′ cd m s ≡ tally (standing (length a) (length c)) (pinsOf a b c d) m s
-      go north = box .tables .norths .is m h
-      go south = table-b (box .tables) m h
-      go west = box .tables .wests .is m h
-      go east = table-d (box .tables) m h
+      go north = up .tables .norths .is m h
+      go south = table-b (up .tables) m h
+      go west = up .tables .wests .is m h
+      go east = table-d (up .tables) m h
 
-  east-counts : (m : ℕ) → m < suc largestNet
+  east-counts : (m : ℕ) → In m largestNet
       → _≡_ {A = Tally} (tallies cd cc′ cb ca m) (λ s. tally (standing (length a) (length c)) (pinsOf a b c d) m (diagonal s))
   east-counts m h = fun-ext go
     where
       go : (s : Side) → tallies cd cc′ cb ca m s ≡ tally (standing (length a) (length c)) (pinsOf a b c d) m (diagonal s)
-      go north = table-d (box .tables) m h
-      go south = box .tables .wests .is m h
-      go west = table-b (box .tables) m h
-      go east = box .tables .norths .is m h
+      go north = table-d (up .tables) m h
+      go south = up .tables .wests .is m h
+      go west = table-b (up .tables) m h
+      go east = up .tables .norths .is m h
 
   by-track : (m : ℕ) → In m largestNet → wanted true (tallies ca cb cc′ cd) m ≡ needsTrack (tally (standing (length a) (length c)) (pinsOf a b c d)) m
   by-track m i = wanted-same true _ _ m (λ j l. north-counts j (omega arith))
@@ -75,40 +81,32 @@ module _ {a b c d ca cb cc′ cd before : List ℕ} (box : Canonical a b c d ca 
   by-column m i = wanted-same false _ _ m (λ j l. east-counts j (omega arith))
 
   lanes-fit : (length a ≤ ceil (length a) (length c) * length c) × (ceil (length a) (length c) * length c < length a + length c)
-  lanes-fit = round-up (length a) (length c) (box .narrow)
+  lanes-fit = round-up (length a) (length c) (up .narrow)
 
   pub tracks-asked : Asked ca cb cc′ cd c (ceil (length a) (length c) * length c) true
   tracks-asked = record {
-    most = omega (arith, lanes-fit, box .tables .sides .norths .short, box .tables .sides .wests .short);
-    side = box .tables .sides .wests;
-    beside = omega (arith, lanes-fit, box .oblong);
-    fits = λ m h. omega (
+    most = omega (arith, lanes-fit, up .tables .sides .norths .short, up .tables .sides .wests .short);
+    side = up .tables .sides .wests;
+    beside = omega (arith, lanes-fit, up .oblong);
+    fits = λ m l. omega (
       arith,
-      box .tables .norths .is m h,
-      box .tables .souths .is m h,
-      count-le (λ i. eqb (entry a i) m) (length a),
-      count-le (λ i. eqb (entry b i) m) (length b),
-      box .tables .sides .norths .short,
-      box .tables .sides .souths .short,
+      few-pins a ca m (up .tables .sides .norths) (up .tables .norths) l,
+      few-pins b cb m (up .tables .sides .souths) (up .tables .souths) l,
     );
     room = omega (arith, count-same _ _ largestNet by-track, enough-tracks (standing (length a) (length c)) (pinsOf a b c d) (box .corner), lanes-fit);
   }
 
   pub columns-asked : Asked cd cc′ cb ca b (length a) false
   columns-asked = record {
-    most = omega (arith, box .tables .sides .norths .short);
-    side = box .tables .sides .souths;
-    beside = omega (arith, box .tables .sides .long);
-    fits = λ m h. omega (
+    most = omega (arith, up .tables .sides .norths .short);
+    side = up .tables .sides .souths;
+    beside = omega (arith, up .tables .sides .long);
+    fits = λ m l. omega (
       arith,
-      box .tables .wests .is m h,
-      box .tables .easts .is m h,
-      count-le (λ i. eqb (entry c i) m) (length c),
-      count-le (λ i. eqb (entry d i) m) (length d),
-      box .tables .sides .wests .short,
-      box .tables .sides .easts .short,
+      few-pins c cc′ m (up .tables .sides .wests) (up .tables .wests) l,
+      few-pins d cd m (up .tables .sides .easts) (up .tables .easts) l,
     );
-    room = omega (arith, count-same _ _ largestNet by-column, enough-columns (standing (length a) (length c)) (pinsOf a b c d) (box .corner), box .oblong);
+    room = omega (arith, count-same _ _ largestNet by-column, enough-columns (standing (length a) (length c)) (pinsOf a b c d) (box .corner), up .oblong);
   }
 
   pub box-laid : (tracks columns : List ℕ)
@@ -119,26 +117,26 @@ module _ {a b c d ca cb cc′ cd before : List ℕ} (box : Canonical a b c d ca 
       (entry (take (ceil (length a) (length c) * length c) tracks)) (entry (take (length a) columns))
   box-laid tracks columns rows posts = record {
     drawing = drawn (length a) (length c) (ceil (length a) (length c)) (pinsOf a b c d) _ _;
-    tracked = lanes-same tracks by-track (omega (arith, lanes-fit, box .oblong)) rows;
+    tracked = lanes-same tracks by-track (omega (arith, lanes-fit, up .oblong)) rows;
     posted = lanes-same columns by-column (omega arith)
-        (subst (λ (n : ℕ). Lanes (wanted false (tallies cd cc′ cb ca)) (entry b) n (length a) (entry columns)) (box .tables .sides .long) posts);
+        (subst (λ (n : ℕ). Lanes (wanted false (tallies cd cc′ cb ca)) (entry b) n (length a) (entry columns)) (up .tables .sides .long) posts);
   }
 
   pub drawable : (tracks columns : List ℕ) → length tracks ≡ 2 * longestSide → length columns ≡ 2 * longestSide
       → Drawable a b c d (take (ceil (length a) (length c) * length c) tracks) (take (length a) columns) (ceil (length a) (length c)) before
   drawable tracks columns lt lc = record {
     lined = record {
-      long = box .tables .sides .norths .short;
-      wide = box .tables .sides .wests .short;
-      across = box .tables .sides .long;
+      long = up .tables .sides .norths .short;
+      wide = up .tables .sides .wests .short;
+      across = up .tables .sides .long;
       lanes = length-take-le _ tracks (omega (arith, tracks-asked .most));
       few = few;
-      room = omega (arith, box .room, add-mul (2 * ceil (length a) (length c)) 4 (length a * length c));
+      room = omega (arith, up .room, add-mul (2 * ceil (length a) (length c)) 4 (length a * length c));
     };
-    across = box .tables .sides .wide;
+    across = up .tables .sides .wide;
     posts = length-take-le (length a) columns (omega (arith, columns-asked .most));
-    room = box .room;
+    room = up .room;
   }
     where
       few : ceil (length a) (length c) ≤ longestSide
-      few = ceil-le (length a) (length c) longestSide (omega (arith, box .tables .sides .norths .short, mul-le-mul-right longestSide (box .narrow)))
+      few = ceil-le (length a) (length c) longestSide (omega (arith, up .tables .sides .norths .short, mul-le-mul-right longestSide (up .narrow)))

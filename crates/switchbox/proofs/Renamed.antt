@@ -17,8 +17,9 @@ use Rattle.grid.proofs.Pins.{Numbered}
 use Rattle.switchbox_law.specs.Drawing.{BoxLaid, mirror}
 use Rattle.switchbox_law.proofs.Mirrors.{seen}
 use Rattle.switchbox_law.proofs.Renaming.{renamed, renamed-legal, most-renamed}
-use Rattle.lanes.specs.Tables.{Nets, Counted}
-use Rattle.switchbox.specs.Box.{mirrorOf, Sides, standing, Tables, Upright, Canonical, Chosen}
+use Rattle.nets.specs.Tables.{pinCountTo, NetTable}
+use Rattle.lanes.specs.Tables.{Nets}
+use Rattle.switchbox.specs.Box.{mirrorOf, Sides, standing, Upright, Canonical, Chosen}
 use Rattle.switchbox.specs.Layers.{LaidAs, Wired}
 
 pub last-mirror : (m : ℕ) → m ≢ 0 → m ≢ 1 → m ≢ 2 → mirrorOf m ≡ mirror true true
@@ -83,39 +84,41 @@ module _ {a b c d : List ℕ} (sides : Sides a b c d) where
   numbered west (suc j) h = sides .wests .small j (omega arith)
   numbered east (suc j) h = sides .easts .small j (omega (arith, sides .wide))
 
-module _ {a b c d before : List ℕ} (up : Upright a b c d before) (φ ψ : Bool) where
-  pub canonical-renamed : {ca cb cc′ cd : List ℕ} → Tables a b c d ca cb cc′ cd → Chosen a b c d (mirror φ ψ)
+module _ {a b c d ca cb cc′ cd before : List ℕ} (up : Upright a b c d ca cb cc′ cd before) (φ ψ : Bool) where
+  pub canonical-renamed : Chosen a b c d (mirror φ ψ)
       → Canonical (by a b c d (seen φ ψ north)) (by a b c d (seen φ ψ south)) (by a b c d (seen φ ψ west)) (by a b c d (seen φ ψ east))
       (by ca cb cc′ cd (seen φ ψ north)) (by ca cb cc′ cd (seen φ ψ south)) (by ca cb cc′ cd (seen φ ψ west)) (by ca cb cc′ cd (seen φ ψ east)) before
-  canonical-renamed {ca} {cb} {cc′} {cd} t h =
-      let n = long-by (up .sides) φ ψ in
-      let w = wide-by (up .sides) φ ψ in
+  canonical-renamed h =
+      let n = long-by (up .tables .sides) φ ψ in
+      let w = wide-by (up .tables .sides) φ ψ in
       record {
-        tables = record {
-          sides = record {
-            norths = nets-by (up .sides) (seen φ ψ north);
-            souths = nets-by (up .sides) (seen φ ψ south);
-            wests = nets-by (up .sides) (seen φ ψ west);
-            easts = nets-by (up .sides) (seen φ ψ east);
-            long = n .1 ∙ sym (n .0);
-            wide = w .1 ∙ sym (w .0);
+        upright = record {
+          tables = record {
+            sides = record {
+              norths = nets-by (up .tables .sides) (seen φ ψ north);
+              souths = nets-by (up .tables .sides) (seen φ ψ south);
+              wests = nets-by (up .tables .sides) (seen φ ψ west);
+              easts = nets-by (up .tables .sides) (seen φ ψ east);
+              long = n .1 ∙ sym (n .0);
+              wide = w .1 ∙ sym (w .0);
+            };
+            norths = counted-by (seen φ ψ north);
+            souths = counted-by (seen φ ψ south);
+            wests = counted-by (seen φ ψ west);
+            easts = counted-by (seen φ ψ east);
           };
-          norths = counted-by (seen φ ψ north);
-          souths = counted-by (seen φ ψ south);
-          wests = counted-by (seen φ ψ west);
-          easts = counted-by (seen φ ψ east);
+          narrow = rw (w .0) (up .narrow);
+          oblong = rw (n .0, w .0) (up .oblong);
+          room = rw (n .0, w .0) (up .room);
         };
-        narrow = rw (w .0) (up .narrow);
-        oblong = rw (n .0, w .0) (up .oblong);
-        room = rw (n .0, w .0) (up .room);
         corner = rw (n .0, w .0, pins-renamed a b c d φ ψ) (most-renamed (standing (length a) (length c)) (pinsOf a b c d) φ ψ h);
       }
     where
-      counted-by : (s : Side) → Counted (by a b c d s) (length (by a b c d s)) (by ca cb cc′ cd s)
-      counted-by north = t .norths
-      counted-by south = t .souths
-      counted-by west = t .wests
-      counted-by east = t .easts
+      counted-by : (s : Side) → NetTable (pinCountTo (entry (by a b c d s)) (length (by a b c d s))) (by ca cb cc′ cd s)
+      counted-by north = up .tables .norths
+      counted-by south = up .tables .souths
+      counted-by west = up .tables .wests
+      counted-by east = up .tables .easts
 
   pub wired-renamed : {turned : Bool} {after : List ℕ}
       → LaidAs turned (length (by a b c d (seen φ ψ north))) (length (by a b c d (seen φ ψ west)))
@@ -124,7 +127,7 @@ module _ {a b c d before : List ℕ} (up : Upright a b c d before) (φ ψ : Bool
   wired-renamed {turned} {after} l =
       go (subst₂ (λ (x y : ℕ).
       LaidAs turned x y (by a b c d (seen φ ψ north)) (by a b c d (seen φ ψ south)) (by a b c d (seen φ ψ west)) (by a b c d (seen φ ψ east)) before after)
-      (long-by (up .sides) φ ψ .0) (wide-by (up .sides) φ ψ .0) l)
+      (long-by (up .tables .sides) φ ψ .0) (wide-by (up .tables .sides) φ ψ .0) l)
     where
       some-layer : 1 ≤ ceil (length a) (length c)
       some-layer = elim (decLe 1 (ceil (length a) (length c))) [
@@ -138,7 +141,7 @@ module _ {a b c d before : List ℕ} (up : Upright a b c d before) (φ ψ : Bool
           → Wired turned a b c d before after
       go l = record {
         wiring = l .wiring;
-        legal = renamed-legal (omega (arith, up .narrow, up .oblong)) (up .narrow) some-layer (numbered (up .sides)) φ ψ
+        legal = renamed-legal (omega (arith, up .narrow, up .oblong)) (up .narrow) some-layer (numbered (up .tables .sides)) φ ψ
             (subst (λ (p : Pins). BoxLaid (length a) (length c) (ceil (length a) (length c)) p (l .wiring) (l .tracks) (l .columns))
             (pins-renamed a b c d φ ψ) (l .laid));
         drawn = l .drawn;

@@ -7,9 +7,10 @@ use native.Mathlib.Omega.{arith}
 use native.Mathlib.Nat.{mul-comm}
 use lib.ListN.{length, getD, take}
 use lib.Seq.{getD-take, length-take-le}
-use lib.Dec.{ltb}
+use lib.Dec.{ltb, eqb}
 use borrow.Author.Tests.{lt-ltb, le-ltb}
 use Rattle.counting.specs.Counting.{In, ceil}
+use Rattle.counting.proofs.Counts.{count-same}
 use Rattle.terms.specs.Kinds.{Side, north, south, west, east}
 use Rattle.terms.specs.Limits.{largestNet, longestSide}
 use Rattle.grid.specs.Grid.{upright, lying, Node, pin, point, places, Inside}
@@ -19,6 +20,7 @@ use Rattle.grid.proofs.Motions.{oriented, restored, quarter, moved-back, legal-
 use Rattle.paint.specs.Paint.{Drawn}
 use Rattle.grid.specs.Laid.{Laid}
 use Rattle.paint.proofs.Laws.{drawn-wiring}
+use Rattle.nets.specs.Tables.{pinCountTo, NetTable}
 use Rattle.lanes.specs.Tables.{Nets}
 use Rattle.switchbox.specs.Box.{standing, Upright}
 use Rattle.switchbox.specs.Layers.{DrawnAs, Wired}
@@ -32,6 +34,15 @@ nets-take : (n : ℕ) (xs : List ℕ) → n ≤ longestSide → n ≤ length xs 
 nets-take n xs short long small =
     let e : length (take n xs) ≡ n = length-take-le n xs long in
     record { short = omega arith; small = λ i h. omega (arith, getD-take n xs i 0 (omega arith), small i (omega arith)) }
+
+counts-take : (n : ℕ) (xs counts : List ℕ) → n ≤ length xs → NetTable (pinCountTo (entry xs) n) counts
+    → NetTable (pinCountTo (entry (take n xs)) (length (take n xs))) counts
+counts-take n xs counts long t = record {
+  size = t .size;
+  none = t .none;
+  is = λ m i. rw (length-take-le n xs long)
+      (t .is m i ∙ count-same _ _ n (λ c j. ap (λ (v : ℕ). eqb v m) (sym (entry-take n xs c j))));
+}
 
 -- the pins that four lists hold at the places of a grid
 pins-take : (n w : ℕ) (a b c d : List ℕ) (s : Side) (i : ℕ) → In i (places (upright n w 1) s)
@@ -105,21 +116,47 @@ module _ {ns ss ws es before : List ℕ} {n w : ℕ} (box : BoxPins ns ss ws es 
   ok-e : Nets (take w es)
   ok-e = nets-take w es (box .wide .1) (omega (arith, box .wide)) (box .easts)
 
-  pub upright-box : w ≤ n → Upright (take n ns) (take n ss) (take w ws) (take w es) before
-  upright-box h = record {
-    sides = record { norths = ok-n; souths = ok-s; wests = ok-w; easts = ok-e; long = long-s ∙ sym long-n; wide = long-e ∙ sym long-w };
-    narrow = omega (arith, long-w, box .wide);
-    oblong = omega (arith, long-w, long-n);
-    room = rw (long-n, long-w, ← layers-long n w h, mul-comm (boxLayers n w) (n * w)) (box .room);
-  }
+  module _ {cn cs cw ce : List ℕ} (tn : NetTable (pinCountTo (entry ns) n) cn) (ts : NetTable (pinCountTo (entry ss) n) cs)
+      (tw : NetTable (pinCountTo (entry ws) w) cw) (te : NetTable (pinCountTo (entry es) w) ce) where
+    counts-n : NetTable (pinCountTo (entry (take n ns)) (length (take n ns))) cn
+    counts-n = counts-take n ns cn (omega (arith, box .long)) tn
 
-  pub turned-box : n < w → Upright (take w es) (take w ws) (take n ss) (take n ns) before
-  turned-box h = record {
-    sides = record { norths = ok-e; souths = ok-w; wests = ok-s; easts = ok-n; long = long-w ∙ sym long-e; wide = long-n ∙ sym long-s };
-    narrow = omega (arith, long-s, box .long);
-    oblong = omega (arith, long-s, long-e);
-    room = rw (long-e, long-s, ← layers-wide n w h, mul-comm (boxLayers n w) (w * n), mul-comm w n) (box .room);
-  }
+    counts-s : NetTable (pinCountTo (entry (take n ss)) (length (take n ss))) cs
+    counts-s = counts-take n ss cs (omega (arith, box .long)) ts
+
+    counts-w : NetTable (pinCountTo (entry (take w ws)) (length (take w ws))) cw
+    counts-w = counts-take w ws cw (omega (arith, box .wide)) tw
+
+    counts-e : NetTable (pinCountTo (entry (take w es)) (length (take w es))) ce
+    counts-e = counts-take w es ce (omega (arith, box .wide)) te
+
+    pub upright-box : w ≤ n → Upright (take n ns) (take n ss) (take w ws) (take w es) cn cs cw ce before
+    upright-box h = record {
+      tables = record {
+        sides = record { norths = ok-n; souths = ok-s; wests = ok-w; easts = ok-e; long = long-s ∙ sym long-n; wide = long-e ∙ sym long-w };
+        norths = counts-n;
+        souths = counts-s;
+        wests = counts-w;
+        easts = counts-e;
+      };
+      narrow = omega (arith, long-w, box .wide);
+      oblong = omega (arith, long-w, long-n);
+      room = rw (long-n, long-w, ← layers-long n w h, mul-comm (boxLayers n w) (n * w)) (box .room);
+    }
+
+    pub turned-box : n < w → Upright (take w es) (take w ws) (take n ss) (take n ns) ce cw cs cn before
+    turned-box h = record {
+      tables = record {
+        sides = record { norths = ok-e; souths = ok-w; wests = ok-s; easts = ok-n; long = long-w ∙ sym long-e; wide = long-n ∙ sym long-s };
+        norths = counts-e;
+        souths = counts-w;
+        wests = counts-s;
+        easts = counts-n;
+      };
+      narrow = omega (arith, long-s, box .long);
+      oblong = omega (arith, long-s, long-e);
+      room = rw (long-e, long-s, ← layers-wide n w h, mul-comm (boxLayers n w) (w * n), mul-comm w n) (box .room);
+    }
 
   pub upright-wired : {after : List ℕ} → w ≤ n → Wired false (take n ns) (take n ss) (take w ws) (take w es) before after
       → Laid (boxGrid n w) (pinsOf ns ss ws es) before after

@@ -5,8 +5,8 @@
 --   Sides a b c d          the sides of a box: north and south, west and east have as many places each
 --   Tables a .. d ca .. cd these sides, and how many pins each net has on each
 --   standing n w           the grid in which a box with n ≥ w is laid
---   Upright a .. d wiring  a box with n ≥ w, for which the buffer is long enough
---   Canonical ..           such a box with its tables, "the nets on just north and east" in it being "the most numerous corner kind"
+--   Upright .. wiring      a box with n ≥ w, for which the buffer is long enough, with its tables
+--   Canonical ..           such a box, "the nets on just north and east" in it being "the most numerous corner kind"
 --   Chosen a b c d μ       the box is so in the mirror image μ
 use Prim.Native.Nat.{ℕ, zero, suc, _+_, _*_, _≤_}
 use mathlib.Core.Path.{_≡_}
@@ -17,11 +17,12 @@ use lib.ListN.{length, getD}
 use Rattle.counting.specs.Counting.{ceil}
 use Rattle.terms.specs.Kinds.{north, south, west, east}
 use Rattle.grid.specs.Grid.{Grid, upright}
-use Rattle.grid.specs.Legal.{pinsOf}
+use Rattle.grid.specs.Legal.{entry, pinsOf}
 use Rattle.grid.specs.Motion.{Orientation}
 use Rattle.switchbox_law.specs.Rules.{corners, MostNorthEast}
 use Rattle.switchbox_law.specs.Drawing.{mirror, Top}
-use Rattle.lanes.specs.Tables.{Nets, Counted}
+use Rattle.nets.specs.Tables.{pinCountTo, NetTable}
+use Rattle.lanes.specs.Tables.{Nets}
 
 abbrev pub cornerAt : List ℕ → List ℕ → List ℕ → List ℕ → ℕ → Bool
 cornerAt a b c d m = ltb 0 (getD a m 0) && ltb 0 (getD b m 0) && eqb (getD c m 0) 0 && eqb (getD d m 0) 0
@@ -42,25 +43,22 @@ pub record Sides (a b c d : List ℕ) : Type 0 where
 
 pub record Tables (a b c d ca cb cc cd : List ℕ) : Type 0 where
   pub sides : Sides a b c d
-  pub norths : Counted a (length a) ca
-  pub souths : Counted b (length b) cb
-  pub wests : Counted c (length c) cc
-  pub easts : Counted d (length d) cd
+  pub norths : NetTable (pinCountTo (entry a) (length a)) ca
+  pub souths : NetTable (pinCountTo (entry b) (length b)) cb
+  pub wests : NetTable (pinCountTo (entry c) (length c)) cc
+  pub easts : NetTable (pinCountTo (entry d) (length d)) cd
 
 abbrev pub standing : ℕ → ℕ → Grid
 standing n w = upright n w (2 * ceil n w + 4)
 
-pub record Upright (a b c d wiring : List ℕ) : Type 0 where
-  pub sides : Sides a b c d
+pub record Upright (a b c d ca cb cc cd wiring : List ℕ) : Type 0 where
+  pub tables : Tables a b c d ca cb cc cd
   pub narrow : 1 ≤ length c
   pub oblong : length c ≤ length a
   pub room : (2 * ceil (length a) (length c) + 4) * (length a * length c) ≤ length wiring
 
 pub record Canonical (a b c d ca cb cc cd wiring : List ℕ) : Type 0 where
-  pub tables : Tables a b c d ca cb cc cd
-  pub narrow : 1 ≤ length c
-  pub oblong : length c ≤ length a
-  pub room : (2 * ceil (length a) (length c) + 4) * (length a * length c) ≤ length wiring
+  pub upright : Upright a b c d ca cb cc cd wiring
   pub corner : MostNorthEast (standing (length a) (length c)) (pinsOf a b c d)
 
 abbrev pub Chosen : List ℕ → List ℕ → List ℕ → List ℕ → Orientation → Type 0

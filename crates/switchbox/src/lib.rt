@@ -2,10 +2,11 @@
 // east are the most numerous corner kind, lanes assigned, and drawn in full lines. A side is renamed and no place reversed.
 ghost use mathlib.Core.Path.{_≡_};
 ghost use mathlib.Core.Bool.{cond};
-ghost use Prim.Native.Nat.{_+_, _*_, _≤_};
+ghost use Prim.Native.Nat.{_+_, _*_};
 ghost use lib.ListN.{length, getD};
-ghost use Rattle.grid.specs.Legal.{nets, pinsOf};
+ghost use Rattle.grid.specs.Legal.{entry, nets, pinsOf};
 ghost use Rattle.grid.specs.Laid.{Laid};
+ghost use Rattle.nets.specs.Tables.{pinCountTo, NetTable};
 ghost use Rattle.switchbox_law.specs.Drawing.{Top};
 ghost use Rattle.switchbox.specs.Box.{cornerAt, mirrorOf, Upright, Canonical};
 ghost use Rattle.switchbox.specs.Wired.{boxGrid, BoxPins};
@@ -21,11 +22,11 @@ use terms::NET_ENTRIES;
 use terms::rounded_up;
 
 // How many nets are on just two sides that meet; a and b are the counts there, c and d those across.
-fn count_corner(
-    a: &[u8; NET_ENTRIES],
-    b: &[u8; NET_ENTRIES],
-    c: &[u8; NET_ENTRIES],
-    d: &[u8; NET_ENTRIES],
+fn count_corner<'a>(
+    a: &'a [u8; NET_ENTRIES],
+    b: &'a [u8; NET_ENTRIES],
+    c: &'a [u8; NET_ENTRIES],
+    d: &'a [u8; NET_ENTRIES],
 ) -> u8
     ensures { λ r. ⌜ r ≡ nets (cornerAt (now (a .entry)) (now (b .entry)) (now (c .entry)) (now (d .entry))) ⌝ }
 {
@@ -60,11 +61,11 @@ fn best_mirror(ne: u8, nw: u8, se: u8, sw: u8) -> u8
 }
 
 // The same by the counts of north, south, west and east.
-fn mirror_by(
-    a: &[u8; NET_ENTRIES],
-    b: &[u8; NET_ENTRIES],
-    c: &[u8; NET_ENTRIES],
-    d: &[u8; NET_ENTRIES],
+fn mirror_by<'a>(
+    a: &'a [u8; NET_ENTRIES],
+    b: &'a [u8; NET_ENTRIES],
+    c: &'a [u8; NET_ENTRIES],
+    d: &'a [u8; NET_ENTRIES],
 ) -> u8
     ensures { λ r. ⌜ Top (nets (cornerAt (now (a .entry)) (now (d .entry)) (now (b .entry)) (now (c .entry))))
         (nets (cornerAt (now (a .entry)) (now (c .entry)) (now (b .entry)) (now (d .entry))))
@@ -183,15 +184,15 @@ fn draw(
 
 // A box with n ≥ w in which the nets on just north and east are the most numerous corner kind; ca to cd are the counts of its
 // sides a to d, which are north, south, west and east.
-fn lay_canonical(
+fn lay_canonical<'a>(
     a: &[u8],
     b: &[u8],
     c: &[u8],
     d: &[u8],
-    ca: &[u8; NET_ENTRIES],
-    cb: &[u8; NET_ENTRIES],
-    cc: &[u8; NET_ENTRIES],
-    cd: &[u8; NET_ENTRIES],
+    ca: &'a [u8; NET_ENTRIES],
+    cb: &'a [u8; NET_ENTRIES],
+    cc: &'a [u8; NET_ENTRIES],
+    cd: &'a [u8; NET_ENTRIES],
     turned: bool,
     wiring: &mut [u8],
 )
@@ -208,45 +209,58 @@ fn lay_canonical(
     draw(a, b, c, d, &tracks[..top], &columns[..n], q, turned, wiring);
 }
 
-// A box with n ≥ w, whose sides are a, b, c and d: they are renamed until the nets on just north and east are the most
-// numerous corner kind. Renamed sides stand for the mirrored box: every line is drawn from end to end.
-fn lay_upright(a: &[u8], b: &[u8], c: &[u8], d: &[u8], turned: bool, wiring: &mut [u8])
-    requires { ⌜ Upright (now a) (now b) (now c) (now d) (now wiring) ⌝ }
+// A box with n ≥ w, whose sides are a, b, c and d, with counts ca to cd: they are renamed until the nets on just north and
+// east are the most numerous corner kind. Renamed sides stand for the mirrored box: every line is drawn from end to end.
+fn lay_upright<'a>(
+    a: &[u8],
+    b: &[u8],
+    c: &[u8],
+    d: &[u8],
+    ca: &'a [u8; NET_ENTRIES],
+    cb: &'a [u8; NET_ENTRIES],
+    cc: &'a [u8; NET_ENTRIES],
+    cd: &'a [u8; NET_ENTRIES],
+    turned: bool,
+    wiring: &mut [u8],
+)
+    requires { ⌜ Upright (now a) (now b) (now c) (now d) (now ca) (now cb) (now cc) (now cd) (now wiring) ⌝ }
     ensures { λ _. ⌜ Wired turned (now (a .entry)) (now (b .entry)) (now (c .entry)) (now (d .entry))
         (now (wiring .entry)) (now (wiring .exit)) ⌝ }
 {
-    let ca = lanes::count_side(a);
-    let cb = lanes::count_side(b);
-    let cc = lanes::count_side(c);
-    let cd = lanes::count_side(d);
-    let mirror = mirror_by(&ca, &cb, &cc, &cd);
+    let mirror = mirror_by(ca, cb, cc, cd);
     if mirror == 0 {
-        lay_canonical(a, b, c, d, &ca, &cb, &cc, &cd, turned, wiring);
+        lay_canonical(a, b, c, d, ca, cb, cc, cd, turned, wiring);
         return;
     }
     if mirror == 1 {
-        lay_canonical(a, b, d, c, &ca, &cb, &cd, &cc, turned, wiring);
+        lay_canonical(a, b, d, c, ca, cb, cd, cc, turned, wiring);
         return;
     }
     if mirror == 2 {
-        lay_canonical(b, a, c, d, &cb, &ca, &cc, &cd, turned, wiring);
+        lay_canonical(b, a, c, d, cb, ca, cc, cd, turned, wiring);
         return;
     }
-    lay_canonical(b, a, d, c, &cb, &ca, &cd, &cc, turned, wiring);
+    lay_canonical(b, a, d, c, cb, ca, cd, cc, turned, wiring);
 }
 
-// Lays a box into the wiring: north and south are the nets at columns 1 to n, west and east those at tracks 1 to w. Where
-// n < w it is turned: north with east, south with west. (For our own crates.)
-pub fn lay_box(
+// Lays a box into the wiring: north and south are the nets at columns 1 to n, west and east those at tracks 1 to w; norths to
+// easts are their counts, net by net. Where n < w it is turned: north with east, south with west. (For our own crates.)
+pub fn lay_box<'a>(
     north: &[u8; LONGEST_SIDE],
     south: &[u8; LONGEST_SIDE],
     west: &[u8; LONGEST_SIDE],
     east: &[u8; LONGEST_SIDE],
+    norths: &'a [u8; NET_ENTRIES],
+    souths: &'a [u8; NET_ENTRIES],
+    wests: &'a [u8; NET_ENTRIES],
+    easts: &'a [u8; NET_ENTRIES],
     n: Column,
     w: Track,
     wiring: &mut [u8],
 )
-    requires { ⌜ BoxPins (now north) (now south) (now west) (now east) (n .0) (w .0) (now wiring) ⌝ }
+    requires { ⌜ BoxPins (now north) (now south) (now west) (now east) (n .0) (w .0) (now wiring) ×
+        NetTable (pinCountTo (entry (now north)) (n .0)) (now norths) × NetTable (pinCountTo (entry (now south)) (n .0)) (now souths) ×
+        NetTable (pinCountTo (entry (now west)) (w .0)) (now wests) × NetTable (pinCountTo (entry (now east)) (w .0)) (now easts) ⌝ }
     ensures { λ _. ⌜ Laid (boxGrid (n .0) (w .0))
         (pinsOf (now (north .entry)) (now (south .entry)) (now (west .entry)) (now (east .entry)))
         (now (wiring .entry)) (now (wiring .exit)) ⌝ }
@@ -258,7 +272,18 @@ pub fn lay_box(
     let c = &west[..];
     let d = &east[..];
     if is_turned(n, w) {
-        lay_upright(&d[..wide], &c[..wide], &b[..long], &a[..long], true, wiring);
+        lay_upright(
+            &d[..wide],
+            &c[..wide],
+            &b[..long],
+            &a[..long],
+            easts,
+            wests,
+            souths,
+            norths,
+            true,
+            wiring,
+        );
         return;
     }
     lay_upright(
@@ -266,6 +291,10 @@ pub fn lay_box(
         &b[..long],
         &c[..wide],
         &d[..wide],
+        norths,
+        souths,
+        wests,
+        easts,
         false,
         wiring,
     );

@@ -1,3 +1,4 @@
+pub mod Bytes
 pub mod Tallied
 pub mod TwoLayer
 pub mod Tests

@@ -5,6 +5,7 @@ use mathlib.Core.Bool.{false}
 use mathlib.Core.List.{[], _∷_}
 use Rattle.counting.specs.Counting.{sum, some, most, ceil, least}
 use Rattle.density.specs.Density.{pinOn, hasPin, passesAt, across, up, tracksFor, floor}
+use Rattle.problem.specs.Problem.{filled}
 use Rattle.ticket.specs.declared.Reading.{Reading}
 use Rattle.ticket_sides.specs.Format.{goodMap, pinNet, valuesFrom, sideNets}
 use Rattle.ticket_sides.specs.Stages.{fieldsOf, headerOf, netsOf, sideOf, after, northEnd, southEnd, westEnd, eastEnd}
@@ -43,7 +44,7 @@ d5-laid = laid-by d5 refl refl 2 1
 
 pub table : ProofTable
 unfolding sum some most ceil pinOn hasPin passesAt across up tracksFor floor goodMap pinNet valuesFrom sideNets least fieldsOf headerOf netsOf
-    sideOf after northEnd southEnd westEnd eastEnd tallied figuresOf surveyOf spelled lineFor checkRefusal
+    sideOf after northEnd southEnd westEnd eastEnd tallied figuresOf filled surveyOf spelled lineFor checkRefusal
 table =
     record {
       R1 = answers r1 .1;

@@ -18,7 +18,8 @@ use Rattle.ticket.specs.Steps.{Extents}
 use Rattle.ticket_sides.specs.Stages.{headerOf, eastEnd, endsOf}
 use Rattle.ticket.specs.Read.{pinsAt, ticketOf, answerOf, readOf}
 use Rattle.ticket.proofs.Laws.{header-good}
-use Rattle.ticket.proofs.Extents.{sides-extents, pin-count}
+use Rattle.ticket.proofs.Extents.{sides-extents}
+use Rattle.table.proofs.Bytes.{pin-count}
 use Rattle.counting.proofs.Leasts.{least-same}
 use Rattle.survey.specs.Survey.{surveyed, surveyOf}
 use Rattle.router.specs.Lay.{layFor, layOf}

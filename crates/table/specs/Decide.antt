@@ -1,6 +1,7 @@
 -- What Read and Check answer, in a form that computes. The table's statement does not cite it: proofs/ show that it is what a ticket says
 -- (Tallied), and that Check answers nothing else (Found).
 --
+--   times s v from k       how often v stands in the k bytes from byte from on
 --   onSide s v from p end  how many net bytes of a side are v; the side has p places, and its bytes are from `from` on, before `end`
 --   bytesOf s v            how many net bytes of the ticket are v: as many as the pins that hold v, and quicker to count
 --   tallied s              what the ticket says, with the pins of each net counted by its bytes
@@ -30,7 +31,7 @@ use mathlib.Core.Bool.{Bool, false, cond, not, _&&_, _||_}
 use mathlib.Core.List.{List, [], _∷_, _++_}
 use lib.Dec.{eqb, leb}
 use lib.ListN.{length}
-use Rattle.counting.specs.Counting.{bit, least}
+use Rattle.counting.specs.Counting.{bit, count, least}
 use Rattle.terms.specs.Kinds.{Side, north, south, west, east}
 use Rattle.terms.specs.Limits.{largestNet}
 use Rattle.grid.specs.Grid.{Grid, Node, pin, point, places}
@@ -39,11 +40,13 @@ use Rattle.ticket.specs.declared.Reading.{Reading}
 use Rattle.ticket_sides.specs.Format.{byte, mapBytes}
 use Rattle.terms.specs.declared.Refusal.{Refusal}
 use Rattle.terms.specs.Refusals.{refusal}
-use Rattle.ticket.specs.Steps.{times}
 use Rattle.ticket_sides.specs.Stages.{headerOf, northEnd, southEnd, westEnd, eastEnd, endsOf}
 use Rattle.ticket.specs.Read.{pinsAt, leftOver, noLone, orRefused, acceptedReading, problemAt}
 
 -- ---- reading
+
+abbrev pub times : List ℕ → ℕ → ℕ → ℕ → ℕ
+times s v from k = count (λ j. eqb (byte s (from + (j - 1))) v) k
 
 abbrev pub onSide : List ℕ → ℕ → ℕ → ℕ → ℕ → ℕ
 onSide s v from p end = times s v (from + mapBytes p) (end - (from + mapBytes p))

@@ -1,91 +1,29 @@
--- What callers use of a ticket that Read accepts: the ranges of its header, and of its pins that they are nets or empty, end with their side, leave
--- bare the sides that its kind lacks, and that no net has one pin. Each stage of the reading was passed, and says its part.
-use Prim.Native.Nat.{ℕ, zero, suc, _+_, _^_, _≤_, _<_}
-use mathlib.Core.Bool.{Bool, true, false, true≢false}
+-- What callers use of a ticket that Read accepts: the ranges of its header, its pins as `Sited` has them, and that no net has one pin. Each
+-- stage of the reading was passed, and says its part.
+use Prim.Native.Nat.{ℕ, _≤_}
 use mathlib.Core.List.{List}
-use mathlib.Core.Logic.{_⊎_, inl, inr, _≢_, ⊎-elim, by-cases}
+use mathlib.Core.Logic.{_≢_, by-cases}
 use mathlib.Core.Path.{_≡_, refl, sym, ap, _∙_, subst}
 use native.Mathlib.Decide.{ℕ-discrete}
-use native.Mathlib.Nat.{div-eq-of-lt}
-use native.Mathlib.Numerals.{add-one}
 use native.Mathlib.Omega.{arith}
 use lib.Dec.{leb, eqb}
 use lib.ListN.{length}
 use borrow.Author.Tests.{eqb-true, eqb-false, eq-eqb, ne-eqb, leb-true}
-use Rattle.counting.specs.Counting.{In}
-use Rattle.counting.proofs.Sums.{split}
-use Rattle.terms.specs.Kinds.{Side, north, south, west, east, byKind, hasSide, largestSideMap, largestByte2}
-use Rattle.terms.proofs.Laws.{Known, is-row, is-channel, is-box, is-two-layer, known}
-use Rattle.terms.specs.Limits.{largestNet, longestSide}
-use Rattle.grid.specs.Grid.{Grid, places, upright}
-use Rattle.grid.specs.Legal.{Pins as GridPins, entry}
-use Rattle.ticket_sides.proofs.Flags.{le-or-lt}
-use Rattle.ticket.proofs.Placed.{standing-below, pin-stands, pin-empty, pin-past, pin-off}
-use Rattle.ticket.proofs.Filled.{entry-values, entry-past}
+use Rattle.terms.specs.Kinds.{Side}
+use Rattle.terms.specs.Limits.{largestNet}
+use Rattle.grid.specs.Grid.{Grid}
+use Rattle.grid.specs.Legal.{Pins as GridPins}
 use Rattle.ticket.proofs.Seconds.{second}
-use Rattle.ticket.proofs.Extents.{side-read, side-before}
+use Rattle.ticket.proofs.Sited.{found, header-fields, small, bare, past, inside, fits}
 use Rattle.counting.proofs.Leasts.{least-zero}
-use Rattle.ticket.proofs.Laws.{unless-good, Fields, fields-good, nets-good}
+use Rattle.ticket.proofs.Laws.{unless-good, Fields}
 use Rattle.ticket_sides.specs.declared.Cursor.{Cursor}
-use Rattle.problem.specs.declared.Pins.{Pins}
 use Rattle.ticket.specs.declared.Reading.{Reading}
 use Rattle.problem.specs.declared.Problem.{Problem}
 use Rattle.problem.specs.Problem.{pinsIn, pinCount, loneNet, netCount, Another, Good, shapeOf}
-use Rattle.ticket_sides.specs.Format.{byte, isOn, stands, standingBits, mapBytes, pinNet, valuesFrom, sideNets}
-use Rattle.ticket_sides.specs.Stages.{goOn, headerOf, netsOf, after, northEnd, southEnd, westEnd, eastEnd, endsOf}
-use Rattle.ticket.specs.Read.{pinsAt, leftOver, noLone, acceptedReading, problemAt, orRefused, ticketOf, problemOf}
-
--- ---- a side's list
-
-module _ (f : ℕ → ℕ) (n : ℕ) where
-  -- what holds of 0 and of f at each place holds of each entry
-  entry-all : (P : ℕ → Type 0) → P 0 → ((a : ℕ) → In a n → P (f a)) → (a : ℕ) → P (entry (valuesFrom f 1 n) a)
-  entry-all P z h zero = z
-  entry-all P z h (suc k) =
-      ⊎-elim (λ le. subst P (sym (entry-values f n (suc k) (omega arith))) (h (suc k) (omega arith))) (λ lt. subst P (sym (entry-past f n (suc k) lt)) z)
-      (le-or-lt (suc k) n)
-
--- nets or empty places, and none past place p
-record NetsUpTo (p : ℕ) (l : List ℕ) : Type 0 where
-  small : (a : ℕ) → entry l a ≤ largestNet
-  past : (a : ℕ) → p < a → entry l a ≡ 0
-
-nets-small : (s : List ℕ) (k i j : ℕ) → netsOf s i k .refusal .number ≡ 0 → j < k → byte s (i + j) ≤ largestNet
-nets-small s zero i j e h = absurd (omega arith)
-nets-small s (suc k) i zero e h = let q : i + 0 ≡ i = omega arith in rw q (nets-good s k i e .1)
-nets-small s (suc k) i (suc j) e h = let q : i + suc j ≡ i + 1 + j = omega arith in rw q (nets-small s k (i + 1) j (nets-good s k i e .2) (omega arith))
-
-module _ (s : List ℕ) (from p : ℕ) (e : netsOf s (from + mapBytes p) (standingBits s from p) .refusal .number ≡ 0) where
-  pin-small : (i : ℕ) → pinNet s true from p (i + 1) ≤ largestNet
-  pin-small i =
-      ⊎-elim (λ le. omega (arith, pin-past s true from p (i + 1) (omega arith)))
-      (λ lt.
-      split (stands s from (i + 1))
-      (λ t. rw (pin-stands s from p i lt t) (nets-small s _ (from + mapBytes p) (standingBits s from i) e (standing-below s from p i lt t)))
-      (λ t. omega (arith, pin-empty s true from p (i + 1) t)))
-      (le-or-lt p i)
-
-  pin-small-at : (a : ℕ) → In a longestSide → pinNet s true from p a ≤ largestNet
-  pin-small-at zero i = absurd (omega arith)
-  pin-small-at (suc k) i = rw (← add-one) (pin-small k)
-
-nets-up-to : (s : List ℕ) (on : Bool) (from p : ℕ) → ((a : ℕ) → In a longestSide → pinNet s on from p a ≤ largestNet) → NetsUpTo p (sideNets s on from p)
-unfolding sideNets
-nets-up-to s on from p small =
-    record {
-      small = entry-all (pinNet s on from p) longestSide (λ x. x ≤ largestNet) (omega arith) small;
-      past = λ a h. ⊎-elim (λ le. entry-values (pinNet s on from p) longestSide a (omega arith) ∙ pin-past s on from p a h)
-          (entry-past (pinNet s on from p) longestSide a) (le-or-lt a longestSide);
-    }
-
-side-up-to : (s : List ℕ) (on : Bool) (p : ℕ) (c : Cursor) → after s on p c .refusal .number ≡ 0 → NetsUpTo p (sideNets s on (c .at) p)
-side-up-to s true p c e = nets-up-to s true (c .at) p (pin-small-at s (c .at) p (side-read s p c e .nets))
-side-up-to s false p c e = nets-up-to s false (c .at) p (λ a i. omega (arith, pin-off s (c .at) p a))
-
-side-bare : (s : List ℕ) (on : Bool) (from p : ℕ) → on ≡ false → (a : ℕ) → entry (sideNets s on from p) a ≡ 0
-unfolding sideNets
-side-bare s on from p off a =
-    entry-all (pinNet s on from p) longestSide (λ x. x ≡ 0) refl (λ b i. ap (λ (t : Bool). pinNet s t from p b) off ∙ pin-off s from p b) a
+use Rattle.ticket_sides.specs.Format.{byte}
+use Rattle.ticket_sides.specs.Stages.{headerOf, eastEnd}
+use Rattle.ticket.specs.Read.{leftOver, noLone, acceptedReading, problemAt, orRefused, ticketOf, problemOf}
 
 -- ---- the stages were passed
 
@@ -94,9 +32,6 @@ stage c t e =
     by-cases (ℕ-discrete (c .refusal .number) 0)
     (λ z. (z, rw (eq-eqb (c .refusal .number) 0 z)))
     (λ n. absurd (n (rw (ne-eqb (c .refusal .number) 0 n) at e)))
-
-abbrev pub found : List ℕ → Pins
-found s = pinsAt s (endsOf s)
 
 abbrev number : Reading → ℕ
 number t = t .refusal .number
@@ -109,126 +44,39 @@ pub record Read (s : List ℕ) : Type 0 where
   pub whole : ticketOf s ≡ acceptedReading (problemAt s (netCount (pinsIn (found s))) (found s))
 
 pub passed : (s : List ℕ) → ticketOf s .refusal .number ≡ 0 → Read s
-unfolding ticketOf headerOf
+unfolding ticketOf
 passed s e =
     let a = stage (headerOf s) _ e in
     let b = stage (eastEnd s) _ (ap number (sym (a .1)) ∙ e) in
     let c = stage (leftOver s (eastEnd s .at)) _ (ap number (sym (b .1)) ∙ ap number (sym (a .1)) ∙ e) in
     let d = stage (noLone (loneNet (pinsIn (found s)))) _ (ap number (sym (c .1)) ∙ ap number (sym (b .1)) ∙ ap number (sym (a .1)) ∙ e) in
-    let one = unless-good (leb 4 (length s)) 1 (length s) _ (λ q. omega arith) (a .0) in
     record {
-      header = fields-good _ _ _ _ (one .1);
+      header = header-fields s (a .0);
       sides = b .0;
       end = leb-true _ _ (unless-good (leb (length s) (eastEnd s .at)) 8 _ _ (λ q. omega arith) (c .0) .0);
       lone = eqb-true _ _ (unless-good (eqb (loneNet (pinsIn (found s))) 0) 9 _ _ (λ q. omega arith) (d .0) .0);
       whole = a .1 ∙ b .1 ∙ c .1 ∙ d .1;
     }
 
--- ---- the pins
-
-off : (b k : ℕ) → b < 2 ^ k → isOn b k ≡ false
-off b k h = rw (div-eq-of-lt h)
+-- ---- the problem
 
 module _ (s : List ℕ) (r : Read s) where
-  ends : NetsUpTo (byte s 1) (found s .north) × NetsUpTo (byte s 1) (found s .south) × NetsUpTo (byte s 2) (found s .west) × NetsUpTo (byte s 2) (found s .east)
-  unfolding northEnd southEnd westEnd eastEnd
-  ends =
-      let w = side-before s _ _ (westEnd s) (r .sides) in
-      let so = side-before s _ _ (southEnd s) w in
-      let n = side-before s _ _ (northEnd s) so in
-      (side-up-to s _ _ (goOn 4) n, side-up-to s _ _ (northEnd s) so, side-up-to s _ _ (southEnd s) w, side-up-to s _ _ (westEnd s) (r .sides))
-
   abbrev problem : Problem
   problem = problemAt s (netCount (pinsIn (found s))) (found s)
 
   abbrev grid : Grid
   grid = shapeOf problem
 
-  small : (side : Side) (a : ℕ) → pinsIn (found s) side a ≤ largestNet
-  small north = ends .0 .small
-  small south = ends .1 .small
-  small west = ends .2 .small
-  small east = ends .3 .small
-
-  known-kind : Known (byte s 0)
-  known-kind = known (byte s 0) (r .header .named)
-
-  -- a side that the kind lacks has no bit in the side map
-  lacking : {kind : ℕ} (side : Side) → Known kind → hasSide kind side ≡ false → byte s 3 ≤ largestSideMap kind → (a : ℕ) → pinsIn (found s) side a ≡ 0
-  lacking south is-row e h = side-bare s _ _ _ (off (byte s 3) 1 (omega arith))
-  lacking west is-row e h = side-bare s _ _ _ (off (byte s 3) 2 (omega arith))
-  lacking east is-row e h = side-bare s _ _ _ (off (byte s 3) 3 (omega arith))
-  lacking west is-channel e h = side-bare s _ _ _ (off (byte s 3) 2 (omega arith))
-  lacking east is-channel e h = side-bare s _ _ _ (off (byte s 3) 3 (omega arith))
-  lacking west is-two-layer e h = side-bare s _ _ _ (off (byte s 3) 2 (omega arith))
-  lacking east is-two-layer e h = side-bare s _ _ _ (off (byte s 3) 3 (omega arith))
-  lacking north is-two-layer e h = absurd (true≢false e)
-  lacking south is-two-layer e h = absurd (true≢false e)
-  lacking north is-row e h = absurd (true≢false e)
-  lacking north is-channel e h = absurd (true≢false e)
-  lacking south is-channel e h = absurd (true≢false e)
-  lacking north is-box e h = absurd (true≢false e)
-  lacking south is-box e h = absurd (true≢false e)
-  lacking west is-box e h = absurd (true≢false e)
-  lacking east is-box e h = absurd (true≢false e)
-
-  bare : (side : Side) → hasSide (byte s 0) side ≡ false → (a : ℕ) → pinsIn (found s) side a ≡ 0
-  bare side e = lacking side known-kind e (r .header .sides)
-
-  -- the width that the map was read by is the kind's own, or the side is bare
-  upper : {kind : ℕ} (side : Side) → Known kind → (hasSide kind side ≡ false) ⊎
-      (places (upright (byte s 1) (byKind kind 1 1 1 (byte s 2) 1) 1) side ≡ places (upright (byte s 1) (byte s 2) 1) side)
-  upper north k = inr refl
-  upper south k = inr refl
-  upper west is-row = inl refl
-  upper east is-row = inl refl
-  upper west is-channel = inl refl
-  upper east is-channel = inl refl
-  upper west is-two-layer = inl refl
-  upper east is-two-layer = inl refl
-  upper west is-box = inr refl
-  upper east is-box = inr refl
-
-  past-map : (side : Side) (a : ℕ) → places (upright (byte s 1) (byte s 2) 1) side < a → pinsIn (found s) side a ≡ 0
-  past-map north = ends .0 .past
-  past-map south = ends .1 .past
-  past-map west = ends .2 .past
-  past-map east = ends .3 .past
-
-  past : (side : Side) (a : ℕ) → places grid side < a → pinsIn (found s) side a ≡ 0
-  past side a h = ⊎-elim (λ e. bare side e a) (λ e. past-map side a (subst (λ (x : ℕ). x < a) e h)) (upper side known-kind)
-
-  none : (side : Side) → pinsIn (found s) side 0 ≡ 0
-  none north = refl
-  none south = refl
-  none west = refl
-  none east = refl
-
-  inside : (side : Side) (a m : ℕ) → m ≢ 0 → pinsIn (found s) side a ≡ m → In a (places grid side)
-  inside side zero m n e = absurd (n (sym e ∙ none side))
-  inside side (suc a) m n e = ⊎-elim (λ le. (omega arith, le)) (λ lt. absurd (n (sym e ∙ past side (suc a) lt))) (le-or-lt (suc a) (places grid side))
-
-  wide : {kind : ℕ} → Known kind → byte s 2 ≤ largestByte2 kind → byKind kind 1 1 1 (byte s 2) 1 ≤ longestSide
-  wide is-row h = omega arith
-  wide is-channel h = omega arith
-  wide is-box h = h
-  wide is-two-layer h = omega arith
-
-  fits : (side : Side) → places grid side ≤ longestSide
-  fits north = r .header .length .1
-  fits south = r .header .length .1
-  fits west = wide known-kind (r .header .second .1)
-  fits east = wide known-kind (r .header .second .1)
-
   abbrev pins : GridPins
   pins = pinsIn (found s)
 
   several : (side : Side) (a : ℕ) → pins side a ≢ 0 → Another grid pins side a
   several side a n =
-      let i = inside side a _ n refl in
-      let u = second pins (pins side a) side a (omega (arith, fits side)) refl
-      (eqb-false _ 1 (least-zero (λ v. eqb (pinCount pins v) 1) largestNet (pins side a) (r .lone) (omega (arith, small side a)))) in
-      record { side = u .side; place = u .place; on = inside (u .side) (u .place) _ n (u .net); net = u .net; different = u .different }
+      let i = inside s (r .header) (r .sides) side a _ n refl in
+      let u = second pins (pins side a) side a (omega (arith, fits s (r .header) (r .sides) side)) refl
+      (eqb-false _ 1 (least-zero (λ v. eqb (pinCount pins v) 1) largestNet (pins side a) (r .lone) (omega (arith, small s (r .header) (r .sides) side a)))) in
+      let on = inside s (r .header) (r .sides) (u .side) (u .place) _ n (u .net) in
+      record { side = u .side; place = u .place; on = on; net = u .net; different = u .different }
 
   good : Good problem
   good =
@@ -236,9 +84,9 @@ module _ (s : List ℕ) (r : Read s) where
         kind = r .header .named;
         columns = r .header .length;
         byte2 = r .header .second;
-        numbered = small;
-        ends = past;
-        bare = bare;
+        numbered = small s (r .header) (r .sides);
+        ends = past s (r .header) (r .sides);
+        bare = bare s (r .header) (r .sides);
         several = several;
         nets = refl;
       }

@@ -1,8 +1,9 @@
 pub mod Filled
-pub mod Tallies
 pub mod Laws
 pub mod Placed
 pub mod Extents
 pub mod Seconds
+pub mod Sited
+pub mod Counted
 pub mod Good
 pub mod Longest

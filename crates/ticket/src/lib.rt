@@ -1,12 +1,11 @@
 // The ticket reader: what a ticket's bytes say, or why they are refused. Public calls: read, and parse, which gives the pins as well.
 use grid::Column;
+use nets::Spans;
 use problem::Pins;
 use problem::Problem;
-use terms::BYTE_VALUES;
-use terms::LARGEST_NET;
 use terms::LONGEST_SIDE;
 use terms::Refusal;
-use terms::either;
+use terms::by_kind;
 use ticket_sides::Cursor;
 use ticket_sides::Ends;
 use ticket_sides::bit_of;
@@ -15,17 +14,15 @@ use ticket_sides::header;
 use ticket_sides::sides;
 use ticket_sides::unless;
 ghost use mathlib.Core.Path.{_≡_};
-ghost use Prim.Native.Nat.{ℕ, _+_, _-_, _*_, _≤_, _<_};
-ghost use lib.ListN.{length, getD};
-ghost use lib.Dec.{leb, eqb};
-ghost use mathlib.Core.Bool.{true, false};
-ghost use Rattle.terms.specs.Limits.{longestSide, largestNet, byteValues};
-ghost use Rattle.counting.specs.Counting.{In, count, least};
-ghost use Rattle.problem.specs.Problem.{pinCount, pinsIn};
+ghost use Prim.Native.Nat.{_+_, _≤_};
+ghost use lib.ListN.{length};
+ghost use mathlib.Core.Bool.{true};
+ghost use Rattle.terms.specs.Limits.{longestSide};
+ghost use Rattle.nets.specs.Tables.{SpansOf};
 ghost use Rattle.ticket_sides.specs.Format.{standingBits, mapBytes, sideNets};
 ghost use Rattle.ticket_sides.specs.Steps.{Header};
 ghost use Rattle.ticket.specs.Read.{pinsAt, leftOver, noLone, refusedReading, acceptedReading, problemAt, judged, ticketOf, readOf};
-ghost use Rattle.ticket.specs.Steps.{netList, times, Extent, Extents};
+ghost use Rattle.ticket.specs.Steps.{netList, Extent, Extents, Sited, readingOf};
 
 // Read accepts no longer list, and one byte more than this of any list tells its whole reading: `longest`, `first-bytes` of proofs/Longest.
 pub const LONGEST_TICKET: usize = 412;
@@ -42,6 +39,13 @@ pub struct ReadAnswer {
 pub struct Reading {
     pub refusal: Refusal,
     pub problem: Problem,
+}
+
+// The same, with the spans of the problem's nets.
+pub struct Parsed {
+    pub refusal: Refusal,
+    pub problem: Problem,
+    pub spans: Spans,
 }
 
 // The net bytes of a side in rising order of place, and 0 past them.
@@ -125,93 +129,6 @@ fn pins_at(ticket: &[u8], ends: Ends) -> Pins
     }
 }
 
-// The counts of each number, with those of the net bytes of a side added. A side that does not stand ends where it starts, before any net
-// byte.
-fn tally(
-    counts: [u16; BYTE_VALUES],
-    ticket: &[u8],
-    at: usize,
-    end: usize,
-    places: usize,
-) -> [u16; BYTE_VALUES]
-    requires { ⌜ ((v : ℕ) → v < byteValues → getD counts v 0 ≤ 3 * longestSide) ⌝ }
-    requires { ⌜ (places ≤ longestSide) × (at ≤ length (now ticket)) × (end ≤ length (now ticket)) ×
-        (end ≤ at + mapBytes places + longestSide) ⌝ }
-    ensures { λ r. ⌜ ((v : ℕ) → v < byteValues → getD r v 0 ≡ getD counts v 0 + times (now (ticket .entry)) v (at + mapBytes places)
-        (end - (at + mapBytes places))) ⌝ }
-{
-    let mut c = counts;
-    let mut i: usize = at + (places + 7) / 8;
-    while i < end {
-        let v = ticket[i] as usize;
-        c[v] = c[v] + 1;
-        i += 1;
-    }
-    c
-}
-
-// How many pins each net has, counted where the ticket lists them; what stands at 0 is not used.
-fn tally_all(ticket: &[u8], ends: Ends) -> [u16; BYTE_VALUES]
-    requires { ⌜ Header (now ticket) ⌝ }
-    requires { ⌜ Extents (now ticket) ends ⌝ }
-    ensures { λ r. ⌜ ((v : ℕ) → In v largestNet → getD r v 0 ≡ pinCount (pinsIn (pinsAt (now (ticket .entry)) ends)) v) ⌝ }
-{
-    let n = ticket[1] as usize;
-    let w = ticket[2] as usize;
-    let c = tally([0u16; BYTE_VALUES], ticket, 4, ends.north.at, n);
-    let c = tally(c, ticket, ends.north.at, ends.south.at, n);
-    let c = tally(c, ticket, ends.south.at, ends.west.at, w);
-    tally(c, ticket, ends.west.at, ends.east.at, w)
-}
-
-// Whether a net has one pin. It has no way out before the end, so that many nets are tested at once.
-fn has_lone(counts: [u16; BYTE_VALUES]) -> bool
-    ensures { λ r. ⌜ (r ≡ false → least (λ v. eqb (getD counts v 0) 1) largestNet ≡ 0) ⌝ }
-{
-    let mut some = false;
-    let mut v: usize = 0;
-    while v < LARGEST_NET {
-        v += 1;
-        some = either(some, counts[v] == 1);
-    }
-    some
-}
-
-// The smallest net with one pin, 0 where there is none, net by net.
-fn lone(counts: [u16; BYTE_VALUES]) -> usize
-    ensures { λ r. ⌜ r ≡ least (λ v. eqb (getD counts v 0) 1) largestNet ⌝ }
-{
-    let mut v: usize = 0;
-    while v < LARGEST_NET {
-        v += 1;
-        if counts[v] == 1 {
-            return v;
-        }
-    }
-    0
-}
-
-fn lone_net(counts: [u16; BYTE_VALUES]) -> usize
-    ensures { λ r. ⌜ r ≡ least (λ v. eqb (getD counts v 0) 1) largestNet ⌝ }
-{
-    if has_lone(counts) { lone(counts) } else { 0 }
-}
-
-// How many nets have pins.
-fn distinct(counts: [u16; BYTE_VALUES]) -> u8
-    ensures { λ r. ⌜ r ≡ count (λ v. leb 1 (getD counts v 0)) largestNet ⌝ }
-{
-    let mut total: u8 = 0;
-    let mut v: usize = 0;
-    while v < LARGEST_NET {
-        v += 1;
-        if 1 <= counts[v] {
-            total += 1;
-        }
-    }
-    total
-}
-
 fn left_over(ticket: &[u8], at: usize) -> Cursor
     ensures { λ r. ⌜ r ≡ leftOver (now (ticket .entry)) at ⌝ }
 {
@@ -224,12 +141,13 @@ fn no_lone(lone: usize) -> Cursor
     unless(lone == 0, 9, lone, go_on(0))
 }
 
-fn refused(c: Cursor) -> Reading
-    ensures { λ r. ⌜ r ≡ refusedReading c ⌝ }
+fn refused(c: Cursor) -> Parsed
+    ensures { λ r. ⌜ (readingOf r ≡ refusedReading c) × (r .refusal ≡ c .refusal) ⌝ }
 {
     let refusal = c.refusal;
     let empty = [0u8; LONGEST_SIDE];
-    Reading {
+    let spans = nets::no_spans();
+    Parsed {
         refusal,
         problem: Problem {
             kind: 0,
@@ -243,14 +161,15 @@ fn refused(c: Cursor) -> Reading
                 east: empty,
             },
         },
+        spans,
     }
 }
 
-fn accepted(ticket: &[u8], nets: u8, pins: Pins) -> Reading
+fn accepted(ticket: &[u8], nets: u8, pins: Pins, spans: Spans) -> Parsed
     requires { ⌜ Header (now ticket) ⌝ }
-    ensures { λ r. ⌜ r ≡ acceptedReading (problemAt (now (ticket .entry)) nets pins) ⌝ }
+    ensures { λ r. ⌜ (readingOf r ≡ acceptedReading (problemAt (now (ticket .entry)) nets pins)) × (r .spans ≡ spans) ⌝ }
 {
-    Reading {
+    Parsed {
         refusal: Refusal {
             number: 0,
             place: 0,
@@ -262,26 +181,43 @@ fn accepted(ticket: &[u8], nets: u8, pins: Pins) -> Reading
             nets,
             pins,
         },
+        spans,
     }
 }
 
-// The last test, once all bytes are read.
-fn judged(ticket: &[u8], ends: Ends) -> Reading
-    requires { ⌜ Header (now ticket) ⌝ }
-    requires { ⌜ Extents (now ticket) ends ⌝ }
-    ensures { λ r. ⌜ r ≡ judged (now (ticket .entry)) (pinsAt (now (ticket .entry)) ends) ⌝ }
+// The spans, and the last test, once all bytes are read.
+fn judged(ticket: &[u8], ends: Ends) -> Parsed
+    requires { ⌜ Header (now ticket) × Extents (now ticket) ends × Sited (now ticket) ends ⌝ }
+    ensures reads { λ r. ⌜ readingOf r ≡ judged (now (ticket .entry)) (pinsAt (now (ticket .entry)) ends) ⌝ }
+    ensures spans { λ r. ⌜ (r .refusal .number ≡ 0 → SpansOf (r .problem) (r .spans)) ⌝ }
 {
-    let counts = tally_all(ticket, ends);
-    let last = no_lone(lone_net(counts));
+    let pins = pins_at(ticket, ends);
+    let n = ticket[1] as usize;
+    let w = by_kind(ticket[0], 1, 1, 1, ticket[2] as usize, 1);
+    let spans = nets::spans_of(&pins.north, &pins.south, &pins.west, &pins.east, n, w);
+    let lone = nets::lone_net(
+        &spans.columns.one,
+        &spans.columns.two,
+        &spans.tracks.one,
+        &spans.tracks.two,
+    );
+    let last = no_lone(lone);
     if last.refusal.number != 0 {
         return refused(last);
     }
-    accepted(ticket, distinct(counts), pins_at(ticket, ends))
+    let nets = nets::net_count(
+        &spans.columns.one,
+        &spans.columns.two,
+        &spans.tracks.one,
+        &spans.tracks.two,
+    );
+    accepted(ticket, nets, pins, spans)
 }
 
-// The whole reading, with the pins: for the crates that go on from a good reading.
-pub fn parse(ticket: &[u8]) -> Reading
-    ensures { λ r. ⌜ r ≡ ticketOf (now (ticket .entry)) ⌝ }
+// The whole reading, with the spans: for the crates that go on from a good reading to its figures and its wiring.
+pub fn parse_spans(ticket: &[u8]) -> Parsed
+    ensures reads { λ r. ⌜ readingOf r ≡ ticketOf (now (ticket .entry)) ⌝ }
+    ensures spans { λ r. ⌜ (r .refusal .number ≡ 0 → SpansOf (r .problem) (r .spans)) ⌝ }
 {
     let head = header(ticket);
     if head.refusal.number != 0 {
@@ -297,6 +233,16 @@ pub fn parse(ticket: &[u8]) -> Reading
         return refused(whole);
     }
     judged(ticket, ends)
+}
+
+// The whole reading, with the pins: for the crates that go on from a good reading.
+pub fn parse(ticket: &[u8]) -> Reading
+    ensures { λ r. ⌜ r ≡ ticketOf (now (ticket .entry)) ⌝ }
+{
+    let whole = parse_spans(ticket);
+    let refusal = whole.refusal;
+    let problem = whole.problem;
+    Reading { refusal, problem }
 }
 
 // Public call Read.

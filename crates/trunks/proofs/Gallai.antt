@@ -14,7 +14,7 @@ use lib.Dec.{ltb, leb, eqb}
 use borrow.Author.Tests.{ltb-true, ltb-false, le-leb, lt-leb, leb-true, eq-eqb, ne-eqb}
 use Rattle.counting.specs.Counting.{In, bit, count}
 use Rattle.counting.proofs.Sums.{split, bit-one, sum-change}
-use Rattle.trunks.specs.declared.Span.{Span}
+use Rattle.nets.specs.declared.Span.{Span}
 use Rattle.trunks.specs.declared.Packing.{Packing}
 use Rattle.trunks.specs.Packing.{pick, firstFree, placed, packed, Packable}
 use Rattle.trunks.specs.Listing.{Ordered}
@@ -66,9 +66,9 @@ contains-le s c = split (leb (s .left) c) (λ e. split (leb c (s .right)) (λ f.
 -- the spans from column m on, in a state of the packing, with b places
 pub record Ready (p : Packing) (ss : List Span) (m b : ℕ) : Type 0 where
   pub lasts-size : length (p .lasts) ≡ 180
-  pub place-size : length (p .place) ≡ 256
+  pub place-size : length (p .place) ≡ 181
   pub ordered : Ordered ss
-  pub each : (s : Span) → List·Memᴰ s ss → (m ≤ s .left) × (s .left ≤ s .right) × (s .net < 256)
+  pub each : (s : Span) → List·Memᴰ s ss → (m ≤ s .left) × (s .left ≤ s .right) × (s .net ≤ 180)
   pub room : (c : ℕ) → m ≤ c → atLeast c (p .lasts) + covering c ss ≤ b
 
 -- what comes of it: r is each net's place
@@ -84,7 +84,7 @@ module _ (p : Packing) (s : Span) (ss : List Span) (m b : ℕ) (few : b ≤ 180)
   abbrev at : ℕ
   at = firstFree (p .lasts) (s .left)
 
-  first : (m ≤ s .left) × (s .left ≤ s .right) × (s .net < 256)
+  first : (m ≤ s .left) × (s .left ≤ s .right) × (s .net ≤ 180)
   first = w .each s (List·Memᴰ·head refl)
 
   at-small : at < b
@@ -125,7 +125,7 @@ module _ (p : Packing) (s : Span) (ss : List Span) (m b : ℕ) (few : b ≤ 180)
 
     packs-one : Packs p (s ∷ ss) b r
     packs-one = record {
-      fit = (omega (arith, at-small), ih .fit);
+      fit = ((omega (arith, at-small), first .2), ih .fit);
       kept = λ m h. ih .kept m (λ t i. h t (List·Memᴰ·tail i)) ∙ getD-set-other (p .place) (s .net) m at 0 (λ e. h s (List·Memᴰ·head refl) (sym e));
       within = λ t i. ⊎-elim (head-within t) (ih .within t) (List·Memᴰ·cases-cons i);
       after = λ t i. ⊎-elim (head-after t) (λ j. before _ _ (ih .after t j)) (List·Memᴰ·cases-cons i);

@@ -1,5 +1,6 @@
 pub mod Steps
 pub mod Lent
+pub mod Ends
 pub mod Listings
 pub mod Gallai
 pub mod Promise

@@ -1,62 +1,25 @@
--- One pin more is passed: what the two loops of the listing have found then. A net's column changes at that net alone.
-use Prim.Native.Nat.{ℕ, zero, suc, _+_, _≤_, _<_}
+-- One pin more is passed: what the loop of the listing has found then. A net's span is listed at the first pin of the net.
+use Prim.Native.Nat.{ℕ, zero, suc, _+_, _*_, _/_, _%_, _≤_, _<_}
 use native.Mathlib.Omega.{arith}
 use native.Mathlib.Decide.{ℕ-discrete}
 use native.Mathlib.Numerals.{add-one}
 use mathlib.Core.Path.{_≡_, refl, sym, ap, _∙_}
-use mathlib.Core.Logic.{_≢_, by-cases, ⊎-elim}
+use mathlib.Core.Logic.{inl, inr, _≢_, by-cases, ⊎-elim}
+use mathlib.Core.Bool.{Bool, true, false, _||_, not, and-eq-true-iff}
 use mathlib.Core.List.{List, [], _∷_, _++_, List·Memᴰ, List·Memᴰ·head, List·Memᴰ·tail, List·Memᴰ·not-nil, List·Memᴰ·append-cases}
 use mathlib.Core.List.{List·Memᴰ·eq-of-singleton, Memᴰ·append-left, Memᴰ·append-right}
-use lib.ListN.{length, getD, set, take, length-set, replicate, length-take, length-replicate}
-use lib.Seq.{getD-set-same, getD-set-other, take-suc-set}
+use lib.ListN.{length, getD, set, take, length-take}
+use lib.Seq.{take-suc-set}
+use lib.Dec.{eqb, ltb}
+use borrow.Author.Tests.{eq-eqb, ne-eqb, eqb-true, eqb-false, ltb-true, lt-ltb}
 use Rattle.counting.specs.Counting.{In}
-use Rattle.trunks.specs.declared.Span.{Span}
-use Rattle.trunks.specs.Listing.{column, Rights, spanOf, Ordered, SpansListed}
-
-blank : (n a : ℕ) → getD {A = ℕ} (replicate n 0) a 0 ≡ 0
-blank zero a = refl
-blank (suc n) zero = refl
-blank (suc n) (suc a) = blank n a
-
--- ---- the rightmost columns
-
-pub right-starts : (pin : ℕ → ℕ) → Rights pin 0 (replicate 256 0)
-right-starts pin = record {
-  size = length-replicate {A = ℕ} 256 0;
-  none = blank 256 0;
-  seen = λ a h. absurd (omega arith);
-  from = λ b h. absurd (omega (arith, blank 256 b));
-}
-
-module _ (pin : ℕ → ℕ) (q : ℕ) (right : List ℕ) (m : ℕ) (e : m ≡ pin q) (r : Rights pin q right) where
-  pub right-none : m ≡ 0 → Rights pin (q + 1) right
-  right-none z = record {
-    size = r .size;
-    none = r .none;
-    seen = λ a h nz. by-cases (ℕ-discrete a q) (λ s. absurd (nz (ap pin s ∙ sym e ∙ z))) (λ ne. r .seen a (omega arith) nz);
-    from = λ b h. let f = r .from b h in (f .0, omega arith, f .2, f .3);
-  }
-
-  pub right-more : m ≢ 0 → m < 256 → Rights pin (q + 1) (set right m (column q))
-  right-more nz fit = record {
-    size = length-set right m (column q) ∙ r .size;
-    none = getD-set-other right m 0 (column q) 0 (λ z. nz (sym z)) ∙ r .none;
-    seen = seen;
-    from = λ b h. by-cases (ℕ-discrete b m) (λ s. (q, omega arith, sym e ∙ sym s, ap (λ (z : ℕ). getD (set right m (column q)) z 0) s ∙ here))
-        (λ ne. let f = r .from b (omega (arith, there b ne)) in (f .0, omega arith, f .2, there b ne ∙ f .3));
-  }
-    where
-      here : getD (set right m (column q)) m 0 ≡ column q
-      here = getD-set-same right m (column q) 0 (omega (arith, r .size))
-
-      there : (b : ℕ) → b ≢ m → getD (set right m (column q)) b 0 ≡ getD right b 0
-      there b ne = getD-set-other right m b (column q) 0 ne
-
-      seen : (a : ℕ) → a < q + 1 → pin a ≢ 0 → column a ≤ getD (set right m (column q)) (pin a) 0
-      seen a h na = by-cases (ℕ-discrete (pin a) m) (λ s. rw (s, here) (omega arith))
-          (λ ne. rw (there (pin a) ne) (r .seen a (by-cases (ℕ-discrete a q) (λ s. absurd (ne (ap pin s ∙ sym e))) (λ nq. omega arith)) na))
-
--- ---- the leftmost columns and the list
+use Rattle.counting.proofs.Sums.{split, bit-one, bit-zero}
+use Rattle.terms.specs.Limits.{largestNet}
+use Rattle.nets.specs.declared.Span.{Span}
+use Rattle.nets.specs.Tables.{Numbered, spanFrom}
+use Rattle.trunks.specs.Listing.{pinNumber, column, startsAt, Ordered, SpansListed}
+use Rattle.trunks.specs.Trunks.{PinIn, SpanColumns}
+use Rattle.trunks.proofs.Ends.{first-before, starts-at, span-ends}
 
 ordered-more : (ss : List Span) (s : Span) → Ordered ss → ((t : Span) → List·Memᴰ t ss → (t .left ≤ s .left) × (t .net ≢ s .net)) → Ordered (ss ++ (s ∷ []))
 ordered-more [] s o h = (λ t i. absurd (List·Memᴰ·not-nil i), tt)
@@ -65,98 +28,133 @@ ordered-more (u ∷ ss) s o h = (
   ordered-more ss s (o .1) (λ t i. h t (List·Memᴰ·tail i)),
 )
 
-pub list-starts : (pin : ℕ → ℕ) (right : List ℕ) → SpansListed pin 0 (replicate 256 0) right []
-list-starts pin right = record {
-  size = length-replicate {A = ℕ} 256 0;
-  seen = λ a h. absurd (omega arith);
-  from = λ b h. absurd (omega (arith, blank 256 b));
+pub list-starts : (pin : ℕ → ℕ) (span : ℕ → Span) → SpansListed pin span 0 []
+list-starts pin span = record {
   each = λ s i. absurd (List·Memᴰ·not-nil i);
-  all = λ b h. absurd (omega (arith, blank 256 b));
+  met = λ s i. absurd (List·Memᴰ·not-nil i);
+  all = λ e h. absurd (omega arith);
   ordered = tt;
 }
 
-module _ (pin : ℕ → ℕ) (q : ℕ) (left right : List ℕ) (ss : List Span) (m : ℕ) (e : m ≡ pin q) (l : SpansListed pin q left right ss) where
-  -- a net that was met before
-  pub list-skip : 1 ≤ getD left m 0 → SpansListed pin (q + 1) left right ss
+module _ (pin : ℕ → ℕ) (span : ℕ → Span) (q : ℕ) (ss : List Span) (l : SpansListed pin span q ss) where
+  -- a net that lies in one column, or has been met before
+  list-skip : (span (pin q) .left < span (pin q) .right → (e : ℕ) × (e < q) × (pin e ≡ pin q)) → SpansListed pin span (q + 1) ss
   list-skip met = record {
-    size = l .size;
-    seen = λ a h. by-cases (ℕ-discrete a q) (again a) (λ ne. l .seen a (omega arith));
-    from = λ b h. let f = l .from b h in (f .0, omega arith, f .2, f .3);
     each = l .each;
-    all = l .all;
+    met = λ s i. let (e, h, p) = l .met s i in (e, omega arith, p);
+    all = all;
     ordered = l .ordered;
   }
     where
-      again : (a : ℕ) → a ≡ q → In (getD left (pin a) 0) (column a)
-      again a s = let same : m ≡ pin a = e ∙ sym (ap pin s) in let f = l .from m met in rw (← same) (met, omega arith)
+      again : span (pin q) .left < span (pin q) .right → List·Memᴰ (span (pin q)) ss
+      again lt = let (e, h, p) = met lt in rw p at (l .all e h (rw p lt))
+
+      all : (e : ℕ) → e < q + 1 → span (pin e) .left < span (pin e) .right → List·Memᴰ (span (pin e)) ss
+      all e h lt = by-cases (ℕ-discrete e q) (λ s. rw s (again (rw s at lt))) (λ ne. l .all e (omega arith) lt)
 
   -- a net that is met here first
-  module _ (fit : m < 256) (new : getD left m 0 ≡ 0) where
-    abbrev left′ : List ℕ
-    left′ = set left m (column q)
+  list-more : (s : Span) → s ≡ span (pin q) → s .net ≡ pin q → 1 ≤ s .left → s .left < s .right → ((e : ℕ) → e < q → pin e ≢ pin q)
+      → ((e : ℕ) → e < q → span (pin e) .left ≤ s .left) → SpansListed pin span (q + 1) (ss ++ (s ∷ []))
+  list-more s is net one lt new early = record {
+    each = λ t i. ⊎-elim (l .each t) (λ j. let e = List·Memᴰ·eq-of-singleton j in rw e (is ∙ ap span (sym net), one, lt)) (List·Memᴰ·append-cases ss i);
+    met = λ t i. ⊎-elim (λ j. let (e, h, p) = l .met t j in (e, omega arith, p))
+        (λ j. let f = List·Memᴰ·eq-of-singleton j in (q, omega arith, rw f (sym net))) (List·Memᴰ·append-cases ss i);
+    all = λ e h k. by-cases (ℕ-discrete e q) (λ f. Memᴰ·append-right ss (List·Memᴰ·head (ap (λ (z : ℕ). span (pin z)) f ∙ sym is)))
+        (λ ne. Memᴰ·append-left (s ∷ []) (l .all e (omega arith) k));
+    ordered = ordered-more ss s (l .ordered) before;
+  }
+    where
+      before : (t : Span) → List·Memᴰ t ss → (t .left ≤ s .left) × (t .net ≢ s .net)
+      before t i = let (e, h, p) = l .met t i in
+          (rw (l .each t i .0, ← p) (early e h), λ z. new e h (p ∙ z ∙ net))
 
-    here : getD left′ m 0 ≡ column q
-    here = getD-set-same left m (column q) 0 (omega (arith, l .size))
+-- ---- pins by number, and by column
 
-    there : (b : ℕ) → b ≢ m → getD left′ b 0 ≡ getD left b 0
-    there b ne = getD-set-other left m b (column q) 0 ne
+pin-north : (north south : List ℕ) (c : ℕ) → pinNumber north south (2 * c) ≡ getD north c 0
+pin-north north south c = let half : 2 * c / 2 ≡ c = omega arith in rw (eq-eqb (2 * c % 2) 0 (omega arith), half)
 
-    other : (s : Span) → List·Memᴰ s ss → s .net ≢ m
-    other s i z = let (same, one, lt) = l .each s i in let z′ : s .left ≡ 0 = ap (λ (u : Span). u .left) same ∙ ap (λ (b : ℕ). getD left b 0) z
-        ∙ new in omega arith
+pin-south : (north south : List ℕ) (c : ℕ) → pinNumber north south (2 * c + 1) ≡ getD south c 0
+pin-south north south c = let half : (2 * c + 1) / 2 ≡ c = omega arith in rw (ne-eqb ((2 * c + 1) % 2) 0 (omega arith), half)
 
-    pub list-met : (ss′ : List Span) → ((s : Span) → List·Memᴰ s ss′ → (s ≡ spanOf left′ right (s .net)) × (1 ≤ s .left) × (s .left < s .right))
-        → Ordered ss′
-        → ((b : ℕ) → b ≢ m → List·Memᴰ (spanOf left right b) ss → List·Memᴰ (spanOf left right b) ss′) →
-        (column q < getD right m 0 → List·Memᴰ (spanOf left′ right m) ss′) → SpansListed pin (q + 1) left′ right ss′
-    list-met ss′ each ordered old now = record {
-      size = length-set left m (column q) ∙ l .size;
-      seen = seen;
-      from = λ b h. by-cases (ℕ-discrete b m) (λ s. (q, omega arith, sym e ∙ sym s, ap (λ (z : ℕ). getD left′ z 0) s ∙ here))
-          (λ ne. let f = l .from b (omega (arith, there b ne)) in (f .0, omega arith, f .2, there b ne ∙ f .3));
-      each = each;
-      all = all;
-      ordered = ordered;
-    }
+-- a pin in a column has a number
+pub pin-of : (north south : List ℕ) (n c m : ℕ) → In c n → PinIn north south c m → (q : ℕ) × (q < 2 * n) × (pinNumber north south q ≡ m) × (column q ≡ c)
+pin-of north south n zero m h p = absurd (omega arith)
+pin-of north south n (suc c) m h (inl e) = (2 * c, omega arith, pin-north north south c ∙ e, omega arith)
+pin-of north south n (suc c) m h (inr e) = (2 * c + 1, omega arith, pin-south north south c ∙ e, omega arith)
+
+-- and each number is a pin's
+of-pin : (north south : List ℕ) (q : ℕ) → PinIn north south (column q) (pinNumber north south q)
+of-pin north south q = rw (add-one (q / 2)) (split (eqb (q % 2) 0) (λ e. inl (rw e)) (λ e. inr (rw e)))
+
+pub pin-small : {north south : List ℕ} → Numbered north → Numbered south → (q : ℕ) {m : ℕ} → m ≡ pinNumber north south q → m ≤ largestNet
+pin-small hn hs q is = rw is (split (eqb (q % 2) 0) (λ e. rw e (hn .small (q / 2))) (λ e. rw e (hs .small (q / 2))))
+
+-- ---- a turn of the loop
+
+module _ (q x m : ℕ) where
+  alone : (eqb (q % 2) 0 || not (eqb x m)) ≡ true → q % 2 ≡ 1 → x ≢ m
+  alone e odd s = absurd (omega (arith, bit-one (rw (ne-eqb (q % 2) 0 (omega arith), eq-eqb x m s) at e)))
+
+  shared : (eqb (q % 2) 0 || not (eqb x m)) ≡ false → (q % 2 ≡ 1) × (x ≡ m)
+  shared e = split (eqb (q % 2) 0) (λ f. absurd (omega (arith, bit-zero (rw f at e))))
+      (λ f. (omega (arith, eqb-false (q % 2) 0 f), split (eqb x m) (λ s. eqb-true x m s) (λ s. absurd (omega (arith, bit-zero (rw (f, s) at e))))))
+
+module _ (north south : List ℕ) (hn : Numbered north) (hs : Numbered south) {n : ℕ} {first last wests easts : List ℕ}
+    (t : SpanColumns north south n first last wests easts) (norths souths : List ℕ) where
+  abbrev pin : ℕ → ℕ
+  pin = pinNumber north south
+
+  abbrev span : ℕ → Span
+  span m = spanFrom first last norths souths wests easts m n
+
+  -- no pin is further left than its net's first column
+  early : (e : ℕ) → e < 2 * n → getD first (pin e) 0 ≤ column e
+  early e h = by-cases (ℕ-discrete (pin e) 0) (λ z. omega (arith, ap (λ (b : ℕ). getD first b 0) z, t .firsts .none))
+      (λ nz. first-before north south t (column e) (pin e) (omega arith) (omega arith, pin-small hn hs e refl) (of-pin north south e) .1)
+
+  module _ {q : ℕ} (h : q < 2 * n) {ss : List Span} (l : SpansListed pin span q ss) {m : ℕ} (e : m ≡ pin q) {r : Bool}
+      (is : r ≡ startsAt north first last m q) where
+    test : r ≡ startsAt north first last (pin q) q
+    test = is ∙ ap (λ (z : ℕ). startsAt north first last z q) e
+
+    pub list-on : r ≡ false → SpansListed pin span (q + 1) ss
+    list-on off = list-skip pin span q ss l (λ lt. met (omega (arith, span-ends t (pin q) (n + 1))))
       where
-        seen : (a : ℕ) → a < q + 1 → In (getD left′ (pin a) 0) (column a)
-        seen a h = by-cases (ℕ-discrete a q) (λ s. let p : pin a ≡ m = ap pin s ∙ sym e in rw (p, here, s) (omega arith))
-            (λ ne. let i = l .seen a (omega arith) in rw (there (pin a) (λ s. absurd (omega (arith, ap (λ (z : ℕ). getD left z 0) s)))) i)
+        met : getD first (pin q) 0 < getD last (pin q) 0 → (e : ℕ) × (e < q) × (pin e ≡ pin q)
+        met lt = split (eqb (q % 2) 0 || not (eqb (getD north (q / 2) 0) (pin q)))
+            (λ a. let (i, p) = starts-at north south t (pin q) lt in
+            let (e, k, same, at) = pin-of north south n (getD first (pin q) 0) (pin q) i p in
+            let ne : getD first (pin q) 0 ≢ column q = λ s. absurd (omega (
+              arith,
+              bit-zero
+                  (rw (a, eq-eqb (getD first (pin q) 0) (column q) s, lt-ltb (column q) (getD last (pin q) 0) (omega arith)) at (sym test ∙ off)),
+            )) in
+            (e, omega (arith, early q h), same))
+            (λ a. let (odd, s) = shared q _ _ a in (2 * (q / 2), omega arith, pin-north north south (q / 2) ∙ s))
 
-        all : (b : ℕ) → 1 ≤ getD left′ b 0 → getD left′ b 0 < getD right b 0 → List·Memᴰ (spanOf left′ right b) ss′
-        all b one lt = by-cases (ℕ-discrete b m) (λ s. rw s (now (omega (arith, here, ap (λ (z : ℕ). getD left′ z 0) s, ap (λ (z : ℕ). getD right z 0) s))))
-            (λ ne. let h = there b ne in rw h (old b ne (l .all b (omega arith) (omega arith))))
-
-    kept : (s : Span) → List·Memᴰ s ss → (s ≡ spanOf left′ right (s .net)) × (1 ≤ s .left) × (s .left < s .right)
-    kept s i = let (f, one, lt) = l .each s i in (f ∙ rw (there (s .net) (other s i)), one, lt)
-
-    pub list-mark : getD right m 0 ≤ column q → SpansListed pin (q + 1) left′ right ss
-    list-mark end = list-met ss kept (l .ordered) (λ b ne i. i) (λ lt. absurd (omega arith))
-
-    pub list-more : column q < getD right m 0 → SpansListed pin (q + 1) left′ right (ss ++ (record { net = m; left = column q; right = getD right m 0 } ∷ []))
-    list-more lt = list-met (ss ++ (s₀ ∷ [])) each (ordered-more ss s₀ (l .ordered) (λ t i. (before t i, other t i)))
-        (λ b ne i. Memᴰ·append-left (s₀ ∷ []) i)
-        (λ lt. Memᴰ·append-right ss (List·Memᴰ·head same))
+    pub list-new : {s : Span} → r ≡ true → s ≡ span m → SpansListed pin span (q + 1) (ss ++ (s ∷ []))
+    list-new {s} on same =
+        let (here, a) = and-eq-true-iff _ (eqb (q % 2) 0 || not (eqb (getD north (q / 2) 0) (pin q))) .0 (sym test ∙ on) in
+        let (f, g) = and-eq-true-iff (eqb (getD first (pin q) 0) (column q)) (ltb (column q) (getD last (pin q) 0)) .0 here in
+        let at : getD first (pin q) 0 ≡ column q = eqb-true _ _ f in
+        let past : column q < getD last (pin q) 0 = ltb-true _ _ g in
+        let (le, re) = span-ends t (pin q) (n + 1) in
+        let own : s ≡ span (pin q) = same ∙ ap span e in
+        let el : s .left ≡ column q = ap (λ (u : Span). u .left) own ∙ le ∙ at in
+        let er : s .right ≡ getD last (pin q) 0 = ap (λ (u : Span). u .right) own ∙ re in
+        list-more pin span q ss l s own (ap (λ (u : Span). u .net) own) (omega arith) (omega arith) (new at a)
+        (λ e k. omega (arith, early e (omega arith), span-ends t (pin e) (n + 1)))
       where
-        s₀ : Span
-        s₀ = record { net = m; left = column q; right = getD right m 0 }
-
-        same : spanOf left′ right m ≡ s₀
-        same = rw here
-
-        each : (s : Span) → List·Memᴰ s (ss ++ (s₀ ∷ [])) → (s ≡ spanOf left′ right (s .net)) × (1 ≤ s .left) × (s .left < s .right)
-        each s i = ⊎-elim (kept s) (λ j. let e′ = List·Memᴰ·eq-of-singleton j in rw e′ (sym same, omega arith, lt)) (List·Memᴰ·append-cases ss i)
-
-        before : (t : Span) → List·Memᴰ t ss → t .left ≤ column q
-        before t i =
-            let (f, one, lt) = l .each t i in
-            let same : t .left ≡ getD left (t .net) 0 = ap (λ (u : Span). u .left) f in
-            let (e, h, p, c) = l .from (t .net) (omega arith) in
-            omega arith
+        -- a pin before q in the same column is the north one
+        new : getD first (pin q) 0 ≡ column q → (eqb (q % 2) 0 || not (eqb (getD north (q / 2) 0) (pin q))) ≡ true → (e : ℕ) → e < q → pin e ≢ pin q
+        new at a e k s =
+            let low : getD first (pin q) 0 ≤ column e = rw s at (early e (omega arith)) in
+            let same : 2 * (q / 2) ≡ e = omega arith in
+            alone q _ _ a (omega arith) (sym (pin-north north south (q / 2)) ∙ ap pin same ∙ s)
 
 -- the list is an array's first elements, and the next one is stored behind them
-pub stored : {pin : ℕ → ℕ} {q : ℕ} {left right : List ℕ} (spans : List Span) (count : ℕ) (s : Span) → length spans ≡ 180 → count < 180
-    → SpansListed pin q left right (take count spans ++ (s ∷ [])) → SpansListed pin q left right (take (count + 1) (set spans count s))
+pub stored : {pin : ℕ → ℕ} {span : ℕ → Span} {q : ℕ} (spans : List Span) (count : ℕ) (s : Span) → length spans ≡ 180 → count < 180
+    → SpansListed pin span q (take count spans ++ (s ∷ [])) → SpansListed pin span q (take (count + 1) (set spans count s))
 stored spans count s size h l = rw (add-one count, take-suc-set spans count s (omega arith)) l
 
 pub short : (n : ℕ) (spans : List Span) → n ≤ 180 → length (take n spans) ≤ 180

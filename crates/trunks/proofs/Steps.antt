@@ -7,9 +7,9 @@ use mathlib.Core.List.{List}
 use lib.ListN.{length, getD, drop, drop-of-length-le}
 use lib.Seq.{drop-cons}
 use borrow.Author.Tests.{lt-ltb, le-ltb}
-use Rattle.trunks.specs.declared.Span.{Span}
+use Rattle.nets.specs.declared.Span.{Span}
 use Rattle.trunks.specs.declared.Packing.{Packing}
-use Rattle.trunks.specs.Packing.{noSpan, firstFree, freshPacking, placed, packed, Packable}
+use Rattle.trunks.specs.Packing.{noSpan, firstFree, freshPacking, placed, packed, Fits, Packable}
 
 -- the search at place i: it ends there, it goes on, or no place is left
 module _ (xs : List ℕ) (i l : ℕ) (so-far : firstFree xs l ≡ i + firstFree (drop i xs) l) where
@@ -33,10 +33,10 @@ pub starts : (ss : List Span) → Packable freshPacking ss → Going ss freshPac
 starts ss f = record { fit = f; so-far = refl }
 
 module _ (ss : List Span) (p : Packing) (k : ℕ) (l : k < length ss) (g : Going ss p k) where
-  both : (firstFree (p .lasts) (getD ss k noSpan .left) < 180) × Packable (placed p (getD ss k noSpan)) (drop (suc k) ss)
+  both : Fits p (getD ss k noSpan) × Packable (placed p (getD ss k noSpan)) (drop (suc k) ss)
   both = subst (Packable p) (drop-cons ss k noSpan l) (g .fit)
 
-  pub finds : firstFree (p .lasts) (getD ss k noSpan .left) < 180
+  pub finds : Fits p (getD ss k noSpan)
   finds = both .0
 
   pub goes-on : Going ss (placed p (getD ss k noSpan)) (k + 1)

@@ -6,18 +6,19 @@
 --   freshPacking       no span has its place yet
 --   placed p s        the state once s has its place: the first that is free from its leftmost column on
 --   packed p ss       the same for a list of spans, one after the other
---   Packable p ss     each of them finds a place that is free
-use Prim.Native.Nat.{ℕ, suc, _<_}
+--   Fits p s          s finds a place that is free, and its net has an entry
+--   Packable p ss     each of them does
+use Prim.Native.Nat.{ℕ, suc, _≤_, _<_}
 use mathlib.Core.Bool.{Bool, true, false}
 use mathlib.Core.List.{List, [], _∷_}
 use lib.ListN.{set, replicate}
 use lib.Dec.{ltb}
-use Rattle.terms.specs.Limits.{largestNet, byteValues}
-use Rattle.trunks.specs.declared.Span.{Span}
+use Rattle.terms.specs.Limits.{largestNet, netEntries}
+use Rattle.nets.specs.declared.Span.{Span}
 use Rattle.trunks.specs.declared.Packing.{Packing}
 
 abbrev pub noSpan : Span
-noSpan = record { net = 0; left = 0; right = 0 }
+noSpan = record { net = 0; left = 0; right = 0; north = 0; south = 0; west = 0; east = 0 }
 
 abbrev pub pick : Bool → ℕ → ℕ → ℕ
 pick true a c = a
@@ -28,7 +29,7 @@ firstFree [] l = 0
 firstFree (x ∷ xs) l = pick (ltb x l) 0 (suc (firstFree xs l))
 
 abbrev pub freshPacking : Packing
-freshPacking = record { lasts = replicate largestNet 0; place = replicate byteValues 0 }
+freshPacking = record { lasts = replicate largestNet 0; place = replicate netEntries 0 }
 
 abbrev pub placed : Packing → Span → Packing
 placed p s = record {
@@ -40,6 +41,9 @@ abbrev pub packed : Packing → List Span → Packing
 packed p [] = p
 packed p (s ∷ ss) = packed (placed p s) ss
 
+abbrev pub Fits : Packing → Span → Type 0
+Fits p s = (firstFree (p .lasts) (s .left) < largestNet) × (s .net ≤ largestNet)
+
 abbrev pub Packable : Packing → List Span → Type 0
 Packable p [] = Unit {0}
-Packable p (s ∷ ss) = (firstFree (p .lasts) (s .left) < largestNet) × Packable (placed p s) ss
+Packable p (s ∷ ss) = Fits p s × Packable (placed p s) ss

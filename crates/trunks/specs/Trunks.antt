@@ -1,5 +1,9 @@
 -- What the trunk places promise to whoever draws them.
 --
+--   Trunks, trunksOf left right place
+--                            the nets' leftmost and rightmost columns and trunk places, an entry for each net
+--   SpanColumns north south n first last wests easts
+--                            what is asked of the table of spans: the nets' first and last columns, and no pin to the west or the east
 --   leftOf, rightOf, placeOf net m's leftmost and rightmost column, 0 where it has no pin, and its trunk place
 --   PinIn north south c m    net m has a pin in column c
 --   Crosses t m c            net m lies in more than one column, and its span, leftmost to rightmost column, contains c
@@ -17,7 +21,21 @@ use lib.Dec.{leb, ltb}
 use Rattle.counting.specs.Counting.{In}
 use Rattle.terms.specs.Limits.{largestNet}
 use Rattle.grid.specs.Legal.{entry, nets}
-use Rattle.trunks.specs.declared.Trunks.{Trunks}
+use Rattle.nets.specs.Tables.{firstHeld, lastHeld, NetTable}
+
+pub record Trunks : Type 0 where
+  pub left : List ℕ
+  pub right : List ℕ
+  pub place : List ℕ
+
+abbrev pub trunksOf : List ℕ → List ℕ → List ℕ → Trunks
+trunksOf left right place = record { left = left; right = right; place = place }
+
+pub record SpanColumns (north south : List ℕ) (n : ℕ) (first last wests easts : List ℕ) : Type 0 where
+  pub firsts : NetTable (firstHeld (entry north) (entry south) n) first
+  pub lasts : NetTable (lastHeld (entry north) (entry south) n) last
+  pub no-west : NetTable (λ m. 0) wests
+  pub no-east : NetTable (λ m. 0) easts
 
 abbrev pub leftOf : Trunks → ℕ → ℕ
 leftOf t m = getD (t .left) m 0

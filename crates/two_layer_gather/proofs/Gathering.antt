@@ -13,7 +13,8 @@ use Rattle.counting.proofs.Sums.{split, sum-none, sum-more, sum-grows, sum-part
 use Rattle.counting.proofs.Counts.{count-same, count-le}
 use Rattle.terms.specs.Limits.{largestNet, byteValues}
 use Rattle.two_layer_law.specs.Moves.{firstOn, lastOn, several, Gathered}
-use Rattle.two_layer_gather.specs.Tables.{pinCountTo, Table}
+use Rattle.nets.specs.Tables.{pinCountTo, NetTable}
+use Rattle.two_layer_gather.specs.Tables.{Table}
 use Rattle.two_layer_gather.proofs.Tables.{holds-first}
 use Rattle.two_layer_gather.proofs.Listing.{listed, Held, held-keep, held-more}
 
@@ -62,11 +63,11 @@ module _ (counts first last other : List ℕ) where
           (set lows n (getD first (k + 1) 0)) (set highs n (getD last (k + 1) 0)) (n + c)
       miss y = let same : n + c ≡ n = omega (arith, f, ap bit y) in rw same (held-keep _ nets tos lows highs n (k + 1) t _ _ h)
 
-  module _ (a b : ℕ → ℕ) (n : ℕ) (cs : Table (pinCountTo a n) counts) (fs : Table (firstOn a n) first) (ls : Table (lastOn a n) last)
+  module _ (a b : ℕ → ℕ) (n : ℕ) (cs : NetTable (pinCountTo a n) counts) (fs : Table (firstOn a n) first) (ls : Table (lastOn a n) last)
       (os : Table (firstOn b n) other) (nets tos lows highs : List ℕ) (found : ℕ) (all : found ≡ count (many counts) largestNet)
       (held : Held (Picked counts first last other) nets tos lows highs found) where
-    many-several : (m : ℕ) → m ≤ largestNet → many counts m ≡ several a n m
-    many-several m l = ap (leb 2) (cs .is m (omega arith))
+    many-several : (m : ℕ) → In m largestNet → many counts m ≡ several a n m
+    many-several m i = ap (leb 2) (cs .is m i)
 
     -- the later of two nets has the higher rank
     rank-less : (x y : ℕ) → x < y → many counts y ≡ true → count (many counts) x < count (many counts) y
@@ -101,10 +102,10 @@ module _ (counts first last other : List ℕ) where
 
     pub gathered : Gathered a b n (listed nets tos lows highs found)
     gathered = record {
-      count = all ∙ count-same (many counts) (several a n) largestNet (λ m i. many-several m (i .1));
-      each = λ s l. (let p = held .is s l in (p .net, sym (many-several (getD nets s 0) (p .net .1)) ∙ p .passes));
+      count = all ∙ count-same (many counts) (several a n) largestNet many-several;
+      each = λ s l. (let p = held .is s l in (p .net, sym (many-several (getD nets s 0) (p .net)) ∙ p .passes));
       rising = rising;
-      all = λ m i t. find m i (many-several m (i .1) ∙ t);
+      all = λ m i t. find m i (many-several m i ∙ t);
       to = λ s l. (let p = held .is s l in let small : getD nets s 0 < byteValues = omega (arith, p .net) in
           p .to ∙ rw (holds-first b n other (getD nets s 0) small os, fs .is (getD nets s 0) small));
       low = λ s l. (let p = held .is s l in p .low ∙ fs .is (getD nets s 0) (omega (arith, p .net)));

@@ -1,26 +1,23 @@
 -- Tables and rows are filled entry by entry: what one more column of a side changes in them.
-use Prim.Native.Nat.{ℕ, suc, _+_, _≤_, _<_}
+use Prim.Native.Nat.{ℕ, suc, _+_, _<_}
 use mathlib.Core.Path.{_≡_, refl, sym, ap, _∙_}
 use mathlib.Core.Logic.{_≢_, by-cases}
 use mathlib.Core.List.{List}
-use mathlib.Core.Bool.{Bool, true, false, not, cond, _&&_}
+use mathlib.Core.Bool.{Bool, true, false, cond, _&&_}
 use native.Mathlib.Omega.{arith}
 use native.Mathlib.Numerals.{add-one}
 use native.Mathlib.Decide.{ℕ-discrete}
 use lib.Dec.{eqb, leb}
-use lib.ListN.{length, getD, set, length-set, replicate}
+use lib.ListN.{getD, set, length-set, replicate}
 use lib.Seq.{getD-set-same, getD-set-other}
 use borrow.Author.Tests.{eq-eqb, ne-eqb}
-use Rattle.counting.specs.Counting.{bit, least}
-use Rattle.counting.proofs.Sums.{sum-none, sum-more}
-use Rattle.counting.proofs.Counts.{count-le}
+use Rattle.counting.specs.Counting.{least}
 use Rattle.counting.proofs.Lists.{zeros-at}
-use Rattle.terms.specs.Limits.{byteValues, longestSide}
+use Rattle.terms.specs.Limits.{byteValues}
 use Rattle.grid.specs.Legal.{entry}
-use Rattle.two_layer_law.specs.Cuts.{cutAfter}
 use Rattle.two_layer_law.specs.Moves.{firstOn, lastOn, heldOn, leads}
-use Rattle.two_layer_cuts.specs.Rows.{item, Row, columnEntries}
-use Rattle.two_layer_gather.specs.Tables.{pinCountTo, Table}
+use Rattle.two_layer_cuts.specs.Rows.{Row, columnEntries}
+use Rattle.two_layer_gather.specs.Tables.{Table}
 use Rattle.counting.proofs.Tests.{some-least}
 
 abbrev blank : List ℕ
@@ -75,42 +72,11 @@ module _ (xs : List ℕ) where
       (λ m d. rw (ne-eqb (getD xs c 0) m (λ q. d (sym q ∙ sym e))))
       (rw (eq-eqb (getD xs c 0) v (sym e))) h)
 
-  -- ---- counts
-
-  pub counts-none : Table (pinCountTo (entry xs) 0) blank
-  counts-none = table-none (pinCountTo (entry xs) 0) (λ m. sum-none (λ c. bit (eqb (entry xs c) m)))
-
-  more : (c m : ℕ) → pinCountTo (entry xs) (c + 1) m ≡ pinCountTo (entry xs) c m + bit (eqb (getD xs c 0) m)
-  more c m = sum-more (λ c. bit (eqb (entry xs c) m)) c ∙ ap (λ (v : ℕ). pinCountTo (entry xs) c m + bit (eqb v m)) (rw add-one)
-
-  pub counts-more : (list : List ℕ) (c v : ℕ) → v ≡ getD xs c 0 → v < byteValues → Table (pinCountTo (entry xs) c) list
-      → Table (pinCountTo (entry xs) (c + 1)) (set list v (getD list v 0 + 1))
-  counts-more list c v e l h = table-more _ _ list v _ l
-      (λ m d. omega (arith, more c m, ap bit (ne-eqb (getD xs c 0) m (λ q. d (sym q ∙ sym e)))))
-      (omega (arith, more c v, ap bit (eq-eqb (getD xs c 0) v (sym e)), h .is v l)) h
-
-  -- no count is above the number of columns
-  pub counts-le : (list : List ℕ) (c v : ℕ) → v < byteValues → Table (pinCountTo (entry xs) c) list → getD list v 0 ≤ c
-  counts-le list c v l h = omega (arith, h .is v l, count-le (λ a. eqb (entry xs a) v) c)
-
 -- ---- rows
-
-pub cond-not : (b : Bool) (x y : ℕ) → cond (not b) x y ≡ cond b y x
-cond-not true x y = refl
-cond-not false x y = refl
 
 cond-same : (b : Bool) (x : ℕ) → cond b x x ≡ x
 cond-same true x = refl
 cond-same false x = refl
-
--- the entries before c are f's
-abbrev pub Filled : (ℕ → ℕ) → List ℕ → ℕ → Type 0
-Filled f list c = (k : ℕ) → k < c → getD list k 0 ≡ f k
-
-pub filled-more : (f : ℕ → ℕ) (list : List ℕ) (c x : ℕ) → c < length list → x ≡ f c → Filled f list c → Filled f (set list c x) (c + 1)
-filled-more f list c x l e h k b = by-cases (ℕ-discrete k c)
-    (λ q. rw q (getD-set-same list c x 0 l ∙ e))
-    (λ q. getD-set-other list c k x 0 q ∙ h k (omega (arith, q)))
 
 abbrev blank-row : List ℕ
 blank-row = replicate columnEntries 0

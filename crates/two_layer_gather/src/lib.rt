@@ -1,8 +1,9 @@
-// What is known of each side of a two-layer channel, and the nets of several pins there. A table has an entry for each byte, so that every
-// net number has one; a row has an entry for each column and one for 0, which is none. All functions here are for our own crates.
+// What is known of each side of a two-layer channel, and the nets of several pins there. A table of columns has an entry for each byte, so
+// that every net number has one; a row has an entry for each column and one for 0, which is none. All functions are for our own crates.
 use terms::BYTE_VALUES;
 use terms::LARGEST_NET;
 use terms::LONGEST_SIDE;
+use terms::NET_ENTRIES;
 use terms::both;
 use terms::entry_of;
 use terms::wide;
@@ -16,12 +17,13 @@ ghost use lib.Dec.{eqb};
 ghost use Rattle.counting.specs.Counting.{bit};
 ghost use Rattle.terms.specs.Limits.{longestSide};
 ghost use Rattle.grid.specs.Legal.{entry};
+ghost use Rattle.nets.specs.Tables.{pinCountTo, NetTable};
 ghost use Rattle.two_layer_law.specs.Moves.{firstOn, lastOn, leads, Gathered};
 ghost use Rattle.two_layer_cuts.specs.Rows.{opsOf, Row};
-ghost use Rattle.two_layer_gather.specs.Tables.{pinCountTo, Table};
+ghost use Rattle.two_layer_gather.specs.Tables.{Table};
 
 fn one_if(b: bool) -> usize
-    ensures { λ r. ⌜ r ≡ bit b ⌝ }
+    ensures { λ r. ⌜ (r ≡ bit b) × (r ≤ 1) ⌝ }
 {
     if b { 1 } else { 0 }
 }
@@ -65,21 +67,6 @@ fn lasts(side: &[u8; LONGEST_SIDE], n: usize) -> [u8; BYTE_VALUES]
     last
 }
 
-// How many pins each net has.
-fn pin_counts(side: &[u8; LONGEST_SIDE], n: usize) -> [u8; BYTE_VALUES]
-    requires { ⌜ n ≤ longestSide ⌝ }
-    ensures { λ r. ⌜ Table (pinCountTo (entry (now (side .entry))) n) r ⌝ }
-{
-    let mut count = [0u8; BYTE_VALUES];
-    let mut c: usize = 0;
-    while c < n {
-        let m = entry_of(side[c]);
-        c += 1;
-        count[m] = count[m] + 1;
-    }
-    count
-}
-
 // The nets of both sides, each in the first column in which this side holds it; the tables are the first columns of this side's nets and of
 // the other's.
 pub fn leads(
@@ -108,12 +95,12 @@ pub fn leads(
 // In rising order of nets. Each net is written, and written over if it has one pin or none: no branch depends on the nets. `other` has the
 // first columns of the other side.
 fn gather(
-    pins: &[u8; BYTE_VALUES],
+    pins: &[u8; NET_ENTRIES],
     first: &[u8; BYTE_VALUES],
     last: &[u8; BYTE_VALUES],
     other: &[u8; BYTE_VALUES],
 ) -> Operations
-    ensures { λ r. ⌜ ((a b : ℕ → ℕ) (n : ℕ) → Table (pinCountTo a n) (now (pins .entry)) → Table (firstOn a n) (now (first .entry)) →
+    ensures { λ r. ⌜ ((a b : ℕ → ℕ) (n : ℕ) → NetTable (pinCountTo a n) (now (pins .entry)) → Table (firstOn a n) (now (first .entry)) →
         Table (lastOn a n) (now (last .entry)) → Table (firstOn b n) (now (other .entry)) → Gathered a b n (opsOf r)) ⌝ }
 {
     let mut nets = [0u8; LARGEST_NET];
@@ -139,18 +126,19 @@ fn gather(
     }
 }
 
-// The same from the side itself.
+// The same from the side itself and from how many pins each net has there.
 pub fn gather_side(
     side: &[u8; LONGEST_SIDE],
+    pins: &[u8; NET_ENTRIES],
     first: &[u8; BYTE_VALUES],
     other: &[u8; BYTE_VALUES],
     n: usize,
 ) -> Operations
     requires { ⌜ n ≤ longestSide ⌝ }
-    ensures { λ r. ⌜ ((b : ℕ → ℕ) → Table (firstOn (entry (now (side .entry))) n) (now (first .entry)) →
-        Table (firstOn b n) (now (other .entry)) → Gathered (entry (now (side .entry))) b n (opsOf r)) ⌝ }
+    ensures { λ r. ⌜ ((b : ℕ → ℕ) → NetTable (pinCountTo (entry (now (side .entry))) n) (now (pins .entry)) →
+        Table (firstOn (entry (now (side .entry))) n) (now (first .entry)) → Table (firstOn b n) (now (other .entry)) →
+        Gathered (entry (now (side .entry))) b n (opsOf r)) ⌝ }
 {
-    let pins = pin_counts(side, n);
     let last = lasts(side, n);
-    gather(&pins, first, &last, other)
+    gather(pins, first, &last, other)
 }

@@ -6,6 +6,7 @@ use grid::column_count;
 use terms::BYTE_VALUES;
 use terms::LARGEST_NET;
 use terms::LONGEST_SIDE;
+use terms::NET_ENTRIES;
 use terms::both;
 use terms::either;
 use terms::entry_of;
@@ -24,6 +25,7 @@ ghost use lib.ListN.{getD};
 ghost use Rattle.counting.specs.Counting.{least};
 ghost use Rattle.terms.specs.Limits.{longestSide};
 ghost use Rattle.grid.specs.Legal.{entry};
+ghost use Rattle.nets.specs.Tables.{pinCountTo, NetTable};
 ghost use Rattle.two_layer_law.specs.Cuts.{Same};
 ghost use Rattle.two_layer_law.specs.Moves.{ready, wrong, spare, MoveState, steps, movesOf, mostMoves};
 ghost use Rattle.two_layer_cuts.specs.Rows.{opsOf, item, Row};
@@ -208,32 +210,39 @@ fn find_moves(
 
 // ---- the plan
 
-// The operations of a channel of length n: in a solid one no net is moved.
-pub fn find_plan(north: &[u8; LONGEST_SIDE], south: &[u8; LONGEST_SIDE], n: Column) -> Plan
-    requires { ⌜ n .0 ≤ longestSide ⌝ }
+// The operations of a channel of length n: in a solid one no net is moved. `norths` and `souths` are how many pins each net has on a side.
+pub fn find_plan<'a>(
+    north: &[u8; LONGEST_SIDE],
+    south: &[u8; LONGEST_SIDE],
+    norths: &'a [u8; NET_ENTRIES],
+    souths: &'a [u8; NET_ENTRIES],
+    n: Column,
+) -> Plan
+    requires { ⌜ (n .0 ≤ longestSide) × NetTable (pinCountTo (entry (now north)) (n .0)) (now norths) ×
+        NetTable (pinCountTo (entry (now south)) (n .0)) (now souths) ⌝ }
     ensures { λ r. ⌜ Planned (entry (now (north .entry))) (entry (now (south .entry))) (n .0) r ⌝ }
 {
     let columns = column_count(n);
     let first = firsts(north, columns);
     let other = firsts(south, columns);
-    let norths = gather_side(north, &first, &other, columns);
-    let souths = gather_side(south, &other, &first, columns);
+    let from_north = gather_side(north, norths, &first, &other, columns);
+    let from_south = gather_side(south, souths, &other, &first, columns);
     let cut = leads(north, &first, &other, columns);
     let goal = leads(south, &other, &first, columns);
     if is_solid(&cut, &goal, columns) {
         let moves = no_operations();
         return Plan {
             solid: true,
-            norths,
+            norths: from_north,
             moves,
-            souths,
+            souths: from_south,
         };
     }
     let moves = find_moves(&goal, cut, first, columns);
     Plan {
         solid: false,
-        norths,
+        norths: from_north,
         moves,
-        souths,
+        souths: from_south,
     }
 }

@@ -14,6 +14,7 @@ fn most_passed(t: &Ticket, lines: usize, at: impl Fn(&Pin) -> usize) -> usize {
 pub struct Figures {
     pub w: usize,
     pub nets: usize,
+    pub pins: usize,
     pub across: usize,
     pub up: usize,
     pub layers: usize,
@@ -42,14 +43,14 @@ fn up(t: &Ticket) -> usize {
 
 fn trunk_figures(t: &Ticket, layers: usize) -> Figures {
     let across = across(t);
-    Figures { w: across.div_ceil(t.byte2).max(1), nets: t.nets().len(), across, up: 0, layers, floor: 0 }
+    Figures { w: across.div_ceil(t.byte2).max(1), nets: t.nets().len(), pins: t.pins.len(), across, up: 0, layers, floor: 0 }
 }
 
 fn box_figures(t: &Ticket) -> Figures {
     let (n, w, across, up) = (t.n, t.byte2, across(t), up(t));
     let (a, b) = (across.div_ceil(w) as i64, up.div_ceil(n) as i64);
     let floor = [1, 2 * a - 1, 2 * b - 1, a + b].into_iter().max().unwrap() as usize;
-    Figures { w, nets: t.nets().len(), across, up, layers: 2 * n.max(w).div_ceil(n.min(w)) + 4, floor }
+    Figures { w, nets: t.nets().len(), pins: t.pins.len(), across, up, layers: 2 * n.max(w).div_ceil(n.min(w)) + 4, floor }
 }
 
 pub fn figures(t: &Ticket) -> Figures {
@@ -57,34 +58,34 @@ pub fn figures(t: &Ticket) -> Figures {
         ROW => trunk_figures(t, 2 * t.byte2),
         CHANNEL => trunk_figures(t, 2 * t.byte2 + 1),
         BOX => box_figures(t),
-        TWO_LAYER => Figures { w: 0, nets: t.nets().len(), across: across(t), up: 0, layers: 2, floor: 0 },
+        TWO_LAYER => Figures { w: 0, nets: t.nets().len(), pins: t.pins.len(), across: across(t), up: 0, layers: 2, floor: 0 },
         other => no_kind(other),
     }
 }
 
-/// number, place, kind, n, w, nets, across, up, layers, floor
-pub fn answer(t: &[u8]) -> [u64; 10] {
+/// number, place, kind, n, w, nets, pins, across, up, layers, floor
+pub fn answer(t: &[u8]) -> [u64; 11] {
     match read::read(t) {
-        Err(Refusal(number, place)) => [number as u64, place as u64, 0, 0, 0, 0, 0, 0, 0, 0],
+        Err(Refusal(number, place)) => [number as u64, place as u64, 0, 0, 0, 0, 0, 0, 0, 0, 0],
         Ok(t) => {
             let f = figures(&t);
-            [0, 0, t.kind as usize, t.n, f.w, f.nets, f.across, f.up, f.layers, f.floor].map(|x| x as u64)
+            [0, 0, t.kind as usize, t.n, f.w, f.nets, f.pins, f.across, f.up, f.layers, f.floor].map(|x| x as u64)
         }
     }
 }
 
 /// The program's line, with its newline.
 pub fn line(t: &[u8]) -> String {
-    let [number, place, kind, n, w, nets, across, up, layers, floor] = answer(t);
+    let [number, place, kind, n, w, nets, pins, across, up, layers, floor] = answer(t);
     if number != 0 {
         return format!("refused {number} at {place}\n");
     }
-    let trunks = format!("length {n} nets {nets} across {across} tracks {w} layers {layers}\n");
+    let trunks = format!("length {n} nets {nets} pins {pins} across {across} tracks {w} layers {layers}\n");
     match kind as u8 {
         ROW => "row ".to_string() + &trunks,
         CHANNEL => "channel ".to_string() + &trunks,
-        BOX => format!("box length {n} width {w} nets {nets} across {across} up {up} layers {layers} floor {floor}\n"),
-        TWO_LAYER => format!("two-layer length {n} nets {nets} across {across} layers {layers}\n"),
+        BOX => format!("box length {n} width {w} nets {nets} pins {pins} across {across} up {up} layers {layers} floor {floor}\n"),
+        TWO_LAYER => format!("two-layer length {n} nets {nets} pins {pins} across {across} layers {layers}\n"),
         other => no_kind(other),
     }
 }

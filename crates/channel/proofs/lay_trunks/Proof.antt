@@ -5,16 +5,18 @@ use native.Mathlib.Omega.{arith}
 use borrow.Author.Needs.{needs}
 use Rattle.grid.specs.Grid.{upright}
 use Rattle.terms.specs.Limits.{largestNet}
+use Rattle.trunks.specs.Trunks.{trunksOf}
 use Rattle.channel.specs.Laying.{planOf, Crossed}
 use Rattle.channel.proofs.Runs.{cross-start, cross-none, cross-at, seats}
 use Rattle.channel.proofs.lay_trunks.Statement.{statement}
 use Rattle.channel.proofs.lay_trunks.Tie as tie
 
 abbrev Inv-loop : tie.InvT-loop
-Inv-loop wiring₀ n w k t m₀ wiring m = (m ≤ largestNet) × Crossed (planOf t (w .0)) (upright (n .0) (w .0) (k .0)) wiring₀ wiring m
+Inv-loop wiring₀ first last places n w k m₀ wiring m = (m ≤ largestNet)
+    × Crossed (planOf (trunksOf first last places) (w .0)) (upright (n .0) (w .0) (k .0)) wiring₀ wiring m
 
 abbrev μ-loop : tie.MeasureT-loop
-μ-loop wiring₀ n w k t m₀ wiring m = largestNet - m
+μ-loop wiring₀ first last places n w k m₀ wiring m = largestNet - m
 
 loop-holds : tie.Need-loop-holds Inv-loop μ-loop
 loop-holds c = (search needs, cross-start (c .before .pre .1 .1))
@@ -27,7 +29,7 @@ lay-trunk-requires c κs =
     let c9 = c6 .before .before .before in
     let c11 = c9 .before .before in (
       (c11 .pre .0 .0, c11 .pre .0 .1, c11 .pre .0 .2, omega (arith, c9 .loop .inv .1 .long, c11 .pre .0 .3)),
-      seats (c11 .args .t2) (c11 .args .w .0)
+      seats (trunksOf (c11 .args .first .now) (c11 .args .last .now) (c11 .args .places .now)) (c11 .args .w .0)
           (c9 .loop .m + 1) (c11 .pre .1 .0) (c6 .wide .ensures) (c4 .wide2 .ensures) (c .before .wide3 .ensures) (c3 .if1 .taken),
     )
 
@@ -41,8 +43,8 @@ loop-again c =
     let c12 = c9 .before .before .before in
     let c14 = c12 .before .before in (
       search needs,
-      cross-at (c14 .args .t2) (c14 .args .w .0) (c14 .pre .1 .0) (c12 .loop .inv .1) (c9 .wide .ensures) (c7 .wide2 .ensures)
-          (c4 .wide3 .ensures) (c6 .if1 .taken) (c2 .lay-trunk .ensures),
+      cross-at (trunksOf (c14 .args .first .now) (c14 .args .last .now) (c14 .args .places .now)) (c14 .args .w .0)
+          (c14 .pre .1 .0) (c12 .loop .inv .1) (c9 .wide .ensures) (c7 .wide2 .ensures) (c4 .wide3 .ensures) (c6 .if1 .taken) (c2 .lay-trunk .ensures),
     )
 
 loop-again-2 : tie.Need-loop-again-2 Inv-loop μ-loop

@@ -15,17 +15,17 @@ points-requires : tie.Need-points-requires
 points-requires c κs =
     let s = c .before .before in
     let q = s .args .q in
-    let z = sizes q (s .pre .0) (s .pre .1) in
-    let w = width-laid q (s .pre .0) (s .pre .1) (s .args .f) (s .pre .2) in
-    (z .long .1, omega (arith, z .wide, w), omega (arith, z .high, ap (λ (u : Figures). u .layers .0) (s .pre .2)))
+    let z = sizes q (s .pre .0 .0) (s .pre .0 .1) in
+    let w = width-laid q (s .pre .0 .0) (s .pre .0 .1) (s .args .f) (s .pre .0 .2) in
+    (z .long .1, omega (arith, z .wide, w), omega (arith, z .high, ap (λ (u : Figures). u .layers .0) (s .pre .0 .2)))
 
 returns : tie.Need-returns
 returns c =
     let c3 = c .before .before .before in
     let s = c3 .before .before .before in
     let q = s .args .q in
-    let size = size-needed q (s .pre .0) (s .pre .1) (s .args .f) (s .pre .2) (c3 .points .result) (c3 .points .ensures) in
-    too-short q (s .args .wiring .now) (c .refused .result) (c3 .points .result) (never-solid q (s .pre .1)) size
+    let size = size-needed q (s .pre .0 .0) (s .pre .0 .1) (s .args .f) (s .pre .0 .2) (c3 .points .result) (c3 .points .ensures) in
+    too-short q (s .args .wiring .now) (c .refused .result) (c3 .points .result) (never-solid q (s .pre .0 .1)) size
     (c .before .before .if1 .taken) (c .refused .ensures ∙ ap refused (c .before .refuse .ensures))
 
 draw-requires : tie.Need-draw-requires
@@ -33,8 +33,10 @@ draw-requires c κs =
     let c2 = c .before .before in
     let s = c2 .before .before .before in
     let q = s .args .q in
-    let size = size-needed q (s .pre .0) (s .pre .1) (s .args .f) (s .pre .2) (c2 .points .result) (c2 .points .ensures) in
-    (s .pre .0, s .pre .1, width-laid q (s .pre .0) (s .pre .1) (s .args .f) (s .pre .2), omega (arith, size, c .before .if1 .left))
+    let size = size-needed q (s .pre .0 .0) (s .pre .0 .1) (s .args .f) (s .pre .0 .2) (c2 .points .result) (c2 .points .ensures) in (
+      (s .pre .0 .0, s .pre .0 .1, width-laid q (s .pre .0 .0) (s .pre .0 .1) (s .args .f) (s .pre .0 .2), omega (arith, size, c .before .if1 .left)),
+      s .pre .1,
+    )
 
 returns-2 : tie.Need-returns-2
 returns-2 c =
@@ -42,11 +44,11 @@ returns-2 c =
     let c7 = c4 .before .before .before in
     let s = c7 .before .before .before in
     let q = s .args .q in
-    let size = size-needed q (s .pre .0) (s .pre .1) (s .args .f) (s .pre .2) (c7 .points .result) (c7 .points .ensures) in
-    drawn q (s .args .wiring .now) (c .answered .result) _ (never-solid q (s .pre .1))
+    let size = size-needed q (s .pre .0 .0) (s .pre .0 .1) (s .args .f) (s .pre .0 .2) (c7 .points .result) (c7 .points .ensures) in
+    drawn q (s .args .wiring .now) (c .answered .result) _ (never-solid q (s .pre .0 .1))
     (omega (arith, size, c4 .before .before .if1 .left)) (c4 .draw .ensures)
-    (c .answered .ensures ∙ answer-is q (c .before .refuse2 .ensures) (s .pre .2)
-    (width-laid q (s .pre .0) (s .pre .1) (s .args .f) (s .pre .2)))
+    (c .answered .ensures ∙ answer-is q (c .before .refuse2 .ensures) (s .pre .0 .2)
+    (width-laid q (s .pre .0 .0) (s .pre .0 .1) (s .args .f) (s .pre .0 .2)))
 
 pub lay-by-figures-spec : {M : Type 1} → statement M
 lay-by-figures-spec =

@@ -14,14 +14,16 @@ use Rattle.router.proofs.lay_two_layer.Statement.{statement}
 use Rattle.router.proofs.lay_two_layer.Tie as tie
 
 find-plan-requires : tie.Need-find-plan-requires
-find-plan-requires c κs = c .before .before .before .before .before .before .pre .0 .columns .1
+find-plan-requires c κs =
+    let s = c .before .before .before .before .before .before in
+    (s .pre .0 .0 .columns .1, s .pre .1 .0, s .pre .1 .1)
 
 returns : tie.Need-returns
 returns c =
     let c3 = c .before .before .before in
     let s = c3 .before .before .before .before .before .before .before in
     let q = s .args .q in
-    let (good, two, same) = s .pre in
+    let (good, two, same) = s .pre .0 in
     turned-solid q (s .args .wiring .now) (c .refused .result)
     (two-layer-solid q two ∙ sym (solid-found q good two (c3 .find-plan .ensures)) ∙ c .before .before .if1 .taken)
     (c .refused .ensures ∙ ap refused (c .before .refuse .ensures))
@@ -30,7 +32,7 @@ tracks-requires : tie.Need-tracks-requires
 tracks-requires c κs =
     let c1 = c .before in
     let s = c1 .before .before .before .before .before .before .before in
-    let (good, two, same) = s .pre in
+    let (good, two, same) = s .pre .0 in
     few-operations (given (s .args .q) good two (c1 .find-plan .ensures) (c .if1 .left))
 
 points-requires : tie.Need-points-requires
@@ -38,7 +40,7 @@ points-requires c κs =
     let c2 = c .before .before in
     let s = c2 .before .before .before .before .before .before .before in
     let q = s .args .q in
-    let (good, two, same) = s .pre in
+    let (good, two, same) = s .pre .0 in
     let there = given q good two (c2 .find-plan .ensures) (c .before .if1 .left) in
     let w = tracks-laid q good two (c2 .find-plan .ensures) (c .before .if1 .left) (c .tracks .result .0) (c .tracks .ensures) in
     (good .columns .1, omega (arith, narrow there, w), omega (arith, two-layers q good two (c .tracks .result .0) w (s .args .f) same))
@@ -50,7 +52,7 @@ returns-2 c =
     let c6 = c4 .before .before in
     let s = c6 .before .before .before .before .before .before .before in
     let q = s .args .q in
-    let (good, two, same) = s .pre in
+    let (good, two, same) = s .pre .0 in
     let found = c6 .find-plan .ensures in
     let wirable = c4 .before .if1 .left in
     let w = tracks-laid q good two found wirable (c4 .tracks .result .0) (c4 .tracks .ensures) in
@@ -66,7 +68,7 @@ lay-requires c κs =
     let c7 = c5 .before .before in
     let s = c7 .before .before .before .before .before .before .before in
     let q = s .args .q in
-    let (good, two, same) = s .pre in
+    let (good, two, same) = s .pre .0 in
     let found = c7 .find-plan .ensures in
     let wirable = c5 .before .if1 .left in
     let w = tracks-laid q good two found wirable (c5 .tracks .result .0) (c5 .tracks .ensures) in
@@ -82,7 +84,7 @@ returns-3 c =
     let c12 = c10 .before .before in
     let s = c12 .before .before .before .before .before .before .before in
     let q = s .args .q in
-    let (good, two, same) = s .pre in
+    let (good, two, same) = s .pre .0 in
     let found = c12 .find-plan .ensures in
     let wirable = c10 .before .if1 .left in
     let tracks = c10 .tracks .result .0 in

@@ -6,6 +6,7 @@ use native.Mathlib.Omega.{arith}
 use lib.ListN.{length, take, drop, getD, set, length-set}
 use denote.Ref.{now}
 use borrow.Author.Needs.{needs}
+use Rattle.survey.specs.Line.{longestLine}
 use Rattle.survey.proofs.Lines.{copied-more}
 use Rattle.survey.proofs.copy.Statement.{statement}
 use Rattle.survey.proofs.copy.Tie as tie
@@ -23,7 +24,7 @@ loop-again : tie.Need-loop-again Inv-loop μ-loop
 loop-again c =
     let l = c .before .loop in
     let line = c .before .before .before .args .line in
-    let size : length (line .bytes) ≡ 192 = search needs in (
+    let size : length (line .bytes) ≡ longestLine = search needs in (
       omega arith,
       simp length-set (l .inv .1),
       ap (λ (k : List ℕ). set k (l .i) (getD (line .bytes) (l .i) 0)) (l .inv .2) ∙ copied-more (line .bytes)

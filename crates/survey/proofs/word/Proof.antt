@@ -7,12 +7,12 @@ use lib.ListN.{length, take, getD, length-set}
 use denote.Ref.{now}
 use borrow.Author.Needs.{needs}
 use Rattle.survey.proofs.Lines.{adds-none, adds-one, adds-more}
-use Rattle.survey.specs.Line.{Adds}
+use Rattle.survey.specs.Line.{longestLine, Adds}
 use Rattle.survey.proofs.word.Statement.{statement}
 use Rattle.survey.proofs.word.Tie as tie
 
 abbrev Inv-loop : tie.InvT-loop
-Inv-loop words bytes₀ used₀ i₀ bytes used i = (i ≤ length words) × (length bytes ≡ 192) × Adds (record { bytes = bytes₀; used = used₀ }) (take i words)
+Inv-loop words bytes₀ used₀ i₀ bytes used i = (i ≤ length words) × (length bytes ≡ longestLine) × Adds (record { bytes = bytes₀; used = used₀ }) (take i words)
     (record { bytes = bytes; used = used })
 
 abbrev μ-loop : tie.MeasureT-loop

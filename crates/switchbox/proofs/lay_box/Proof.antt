@@ -13,14 +13,14 @@ slice-aggregate-lay-upright c =
     let at-d = c .before .before .before in
     let at-wide = at-d .before .before .before .before in
     let start = at-wide .before .before .before in
-    sym (length-take-le _ _ (omega (arith, at-d .d .given .0, at-wide .track-count .ensures, start .pre .wide)))
+    sym (length-take-le _ _ (omega (arith, at-d .d .given .0, at-wide .track-count .ensures, start .pre .0 .wide)))
 
 slice-aggregate-lay-upright-2 : tie.Need-slice-aggregate-lay-upright-2
 slice-aggregate-lay-upright-2 c =
     let at-c = c .before .before .before .before .before in
     let at-wide = at-c .before .before .before in
     let start = at-wide .before .before .before in
-    sym (length-take-le _ _ (omega (arith, at-c .c .given .0, at-wide .track-count .ensures, start .pre .wide)))
+    sym (length-take-le _ _ (omega (arith, at-c .c .given .0, at-wide .track-count .ensures, start .pre .0 .wide)))
 
 slice-aggregate-lay-upright-3 : tie.Need-slice-aggregate-lay-upright-3
 slice-aggregate-lay-upright-3 c =
@@ -28,7 +28,7 @@ slice-aggregate-lay-upright-3 c =
     let at-wide = at-b .before .before in
     let at-long = at-wide .before in
     let start = at-long .before .before in
-    sym (length-take-le _ _ (omega (arith, at-b .b .given .0, at-long .column-count .ensures, start .pre .long)))
+    sym (length-take-le _ _ (omega (arith, at-b .b .given .0, at-long .column-count .ensures, start .pre .0 .long)))
 
 slice-aggregate-lay-upright-4 : tie.Need-slice-aggregate-lay-upright-4
 slice-aggregate-lay-upright-4 c =
@@ -36,7 +36,7 @@ slice-aggregate-lay-upright-4 c =
     let at-wide = at-a .before in
     let at-long = at-wide .before in
     let start = at-long .before .before in
-    sym (length-take-le _ _ (omega (arith, at-a .a .given .0, at-long .column-count .ensures, start .pre .long)))
+    sym (length-take-le _ _ (omega (arith, at-a .a .given .0, at-long .column-count .ensures, start .pre .0 .long)))
 
 lay-upright-requires : tie.Need-lay-upright-requires
 lay-upright-requires c κs =
@@ -51,7 +51,8 @@ lay-upright-requires c κs =
     let start = at-long .before .before in
     let test = ltb-true _ _ (sym (at-turned .is-turned .ensures) ∙ at-if1 .if1 .taken) in
     rw (at-long .column-count .ensures, at-wide .track-count .ensures)
-    (turned-box (start .pre) (at-a .a .given .0) (at-b .b .given .0) (at-c .c .given .0) (at-d .d .given .0) test)
+    (turned-box (start .pre .0) (at-a .a .given .0) (at-b .b .given .0) (at-c .c .given .0) (at-d .d .given .0)
+    (start .pre .1) (start .pre .2) (start .pre .3) (start .pre .4) test)
 
 returns : tie.Need-returns
 returns c =
@@ -66,7 +67,7 @@ returns c =
     let at-long = at-wide .before in
     let start = at-long .before .before in
     let test = ltb-true _ _ (sym (at-turned .is-turned .ensures) ∙ at-if1 .if1 .taken) in
-    turned-wired (start .pre) (at-a .a .given .0) (at-b .b .given .0) (at-c .c .given .0) (at-d .d .given .0) test
+    turned-wired (start .pre .0) (at-a .a .given .0) (at-b .b .given .0) (at-c .c .given .0) (at-d .d .given .0) test
     (rw (at-long .column-count .ensures, at-wide .track-count .ensures) at (at-laid .lay-upright .ensures))
 
 slice-aggregate-lay-upright-5 : tie.Need-slice-aggregate-lay-upright-5
@@ -75,7 +76,7 @@ slice-aggregate-lay-upright-5 c =
     let at-wide = at-a .before in
     let at-long = at-wide .before in
     let start = at-long .before .before in
-    sym (length-take-le _ _ (omega (arith, at-a .a .given .0, at-long .column-count .ensures, start .pre .long)))
+    sym (length-take-le _ _ (omega (arith, at-a .a .given .0, at-long .column-count .ensures, start .pre .0 .long)))
 
 slice-aggregate-lay-upright-6 : tie.Need-slice-aggregate-lay-upright-6
 slice-aggregate-lay-upright-6 c =
@@ -83,21 +84,21 @@ slice-aggregate-lay-upright-6 c =
     let at-wide = at-b .before .before in
     let at-long = at-wide .before in
     let start = at-long .before .before in
-    sym (length-take-le _ _ (omega (arith, at-b .b .given .0, at-long .column-count .ensures, start .pre .long)))
+    sym (length-take-le _ _ (omega (arith, at-b .b .given .0, at-long .column-count .ensures, start .pre .0 .long)))
 
 slice-aggregate-lay-upright-7 : tie.Need-slice-aggregate-lay-upright-7
 slice-aggregate-lay-upright-7 c =
     let at-c = c .before .before .before .before .before .before in
     let at-wide = at-c .before .before .before in
     let start = at-wide .before .before .before in
-    sym (length-take-le _ _ (omega (arith, at-c .c .given .0, at-wide .track-count .ensures, start .pre .wide)))
+    sym (length-take-le _ _ (omega (arith, at-c .c .given .0, at-wide .track-count .ensures, start .pre .0 .wide)))
 
 slice-aggregate-lay-upright-8 : tie.Need-slice-aggregate-lay-upright-8
 slice-aggregate-lay-upright-8 c =
     let at-d = c .before .before .before .before .before .before in
     let at-wide = at-d .before .before .before .before in
     let start = at-wide .before .before .before in
-    sym (length-take-le _ _ (omega (arith, at-d .d .given .0, at-wide .track-count .ensures, start .pre .wide)))
+    sym (length-take-le _ _ (omega (arith, at-d .d .given .0, at-wide .track-count .ensures, start .pre .0 .wide)))
 
 lay-upright-requires-2 : tie.Need-lay-upright-requires-2
 lay-upright-requires-2 c κs =
@@ -112,7 +113,8 @@ lay-upright-requires-2 c κs =
     let start = at-long .before .before in
     let test = ltb-false _ _ (sym (at-turned .is-turned .ensures) ∙ at-if1 .if1 .left) in
     rw (at-long .column-count .ensures, at-wide .track-count .ensures)
-    (upright-box (start .pre) (at-a .a .given .0) (at-b .b .given .0) (at-c .c .given .0) (at-d .d .given .0) test)
+    (upright-box (start .pre .0) (at-a .a .given .0) (at-b .b .given .0) (at-c .c .given .0) (at-d .d .given .0)
+    (start .pre .1) (start .pre .2) (start .pre .3) (start .pre .4) test)
 
 returns-2 : tie.Need-returns-2
 returns-2 c =
@@ -127,7 +129,7 @@ returns-2 c =
     let at-long = at-wide .before in
     let start = at-long .before .before in
     let test = ltb-false _ _ (sym (at-turned .is-turned .ensures) ∙ at-if1 .if1 .left) in
-    upright-wired (start .pre) (at-a .a .given .0) (at-b .b .given .0) (at-c .c .given .0) (at-d .d .given .0) test
+    upright-wired (start .pre .0) (at-a .a .given .0) (at-b .b .given .0) (at-c .c .given .0) (at-d .d .given .0) test
     (rw (at-long .column-count .ensures, at-wide .track-count .ensures) at (at-laid .lay-upright2 .ensures))
 
 pub lay-box-spec : {M : Type 1} → statement M

@@ -10,8 +10,8 @@ use Rattle.switchbox.proofs.lay_canonical.Tie as tie
 rounded-up-requires : tie.Need-rounded-up-requires
 rounded-up-requires c κs =
     let start = c .before .before .before .before .before in
-    let sides = start .pre .tables .sides in
-    omega (arith, sides .norths .short, sides .wests .short, start .pre .narrow)
+    let sides = start .pre .upright .tables .sides in
+    omega (arith, sides .norths .short, sides .wests .short, start .pre .upright .narrow)
 
 mul-top : tie.Need-mul-top
 mul-top c =

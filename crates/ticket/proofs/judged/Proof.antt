@@ -1,42 +1,80 @@
--- `ticket::judged` meets its contract: the counts in the array are those of the pins, so `lone` and `distinct` say the same of both.
-use Prim.Native.Nat.{ℕ}
-use mathlib.Core.Path.{sym, ap, ap₂, _∙_}
-use lib.Dec.{eqb, leb}
+-- `ticket::judged` meets its contract: the table is that of the pins, so its lone net and its number of nets are theirs.
+use Prim.Native.Nat.{ℕ, _≤_}
+use mathlib.Core.Path.{_≡_, sym, ap, ap₂, _∙_, subst}
 use denote.Ref.{now}
 use borrow.Author.Needs.{needs}
-use Rattle.counting.proofs.Counts.{count-same}
-use Rattle.terms.specs.Limits.{largestNet}
-use Rattle.counting.proofs.Leasts.{least-same}
-use Rattle.ticket.proofs.Laws.{turned-down, going-on}
-use Rattle.ticket.specs.Read.{pinsAt, acceptedReading, problemAt, noLone}
+use Rattle.nets.specs.declared.Spans.{Spans}
+use Rattle.nets.specs.Tables.{SpansOf}
+use Rattle.terms.specs.Limits.{longestSide}
+use Rattle.terms.specs.Kinds.{north, west}
+use Rattle.terms.specs.declared.Refusal.{Refusal}
 use Rattle.problem.specs.declared.Pins.{Pins}
-use Rattle.problem.specs.Problem.{pinsIn, pinCount}
+use Rattle.problem.specs.declared.Problem.{Problem}
+use Rattle.ticket.specs.declared.Reading.{Reading}
+use Rattle.ticket.proofs.Laws.{turned-down, going-on}
+use Rattle.ticket.proofs.Counted.{spans-any, spans-read, numbered, lone-counted, nets-counted}
+use Rattle.ticket.specs.Read.{pinsAt, acceptedReading, problemAt, noLone}
 use Rattle.ticket.proofs.judged.Statement.{statement}
 use Rattle.ticket.proofs.judged.Tie as tie
 
+spans-of-requires : tie.Need-spans-of-requires
+spans-of-requires c κs =
+    let c5 = c .before .before .before .before .before in
+    let c9 = c5 .before .before .before .before in
+    let a = c9 .before .before in
+    let site = a .pre .2 in (
+      (site .fits north, subst (λ (w : ℕ). w ≤ longestSide) (sym (c5 .by-kind .ensures)) (site .fits west)),
+      numbered (now (a .args .ticket)) (a .args .ends) site (c9 .pins-at .ensures),
+    )
+
+spans-as : {q q′ : Problem} {t t′ : Spans} → q′ ≡ q → t′ ≡ t → SpansOf q t → SpansOf q′ t′
+spans-as {q} {t′ = t′} a b is = subst (λ (u : Problem). SpansOf u t′) (sym a) (subst (SpansOf q) (sym b) is)
+
 returns : tie.Need-returns
 returns c =
-    let a = c .before .before .before .before .before .before .before .args in
-    let p = pinsIn (pinsAt (now (a .ticket)) (a .ends)) in
-    let alone = c .before .before .before .before .lone-net .ensures ∙ least-same _ (λ m. eqb (pinCount p m) 1) largestNet
-    (λ v i. ap (λ (k : ℕ). eqb k 1) (c .before .before .before .before .before .tally-all .ensures v i)) in
-    turned-down _ (c .before .before .before .no-lone .ensures ∙ ap noLone alone) (c .before .if1 .taken) (c .refused .ensures)
+    let c4 = c .before .before .before .before in
+    let c10 = c4 .before .before .before .before .before .before in
+    let c16 = c10 .before .before .before .before .before .before in
+    let c20 = c16 .before .before .before .before in
+    let a = c20 .before .before in
+    let s = now (a .args .ticket) in
+    let is = spans-read s (c16 .by-kind .ensures) (c10 .spans-of .ensures .0) (c10 .spans-of .ensures .1) in
+    let alone = c4 .lone-net .ensures ∙ lone-counted s (a .args .ends) (a .pre .2) (c20 .pins-at .ensures) (c10 .spans-of .result) is in
+    let no = c .before .if1 .taken in (
+      turned-down _ (c .before .before .before .no-lone .ensures ∙ ap noLone alone) no (c .refused .ensures .0),
+      λ z. absurd (no (ap (λ (x : Refusal). x .number) (sym (c .refused .ensures .1)) ∙ z)),
+    )
+
+accepted-requires : tie.Need-accepted-requires
+accepted-requires c κs =
+    let c8 = c .before .before .before .before .before .before .before .before in
+    let c15 = c8 .before .before .before .before .before .before .before in
+    let c25 = c15 .before .before .before .before .before .before .before .before .before .before in
+    c25 .before .before .pre .0
 
 returns-2 : tie.Need-returns-2
 returns-2 c =
-    let c7 = c .before .before .before .before .before .before .before in
-    let a = c7 .before .before .args in
-    let s = now (a .ticket) in
-    let ps = pinsAt s (a .ends) in
-    let p = pinsIn ps in
-    let alone = c .before .before .before .before .before .before .lone-net .ensures ∙ least-same _ (λ m. eqb (pinCount p m) 1) largestNet
-    (λ v i. ap (λ (k : ℕ). eqb k 1) (c7 .tally-all .ensures v i)) in
-    let many = c .before .before .distinct .ensures ∙ count-same _ (λ m. leb 1 (pinCount p m)) largestNet
-    (λ v i. ap (leb 1) (c7 .tally-all .ensures v i)) in
-    c .accepted .ensures ∙ ap₂ (λ (k : ℕ) (ps : Pins). acceptedReading (problemAt s k ps)) many (c .before .pins-at .ensures) ∙ sym
-    (going-on _ (c .before .before .before .before .before .no-lone .ensures ∙ ap noLone alone) (c .before .before .before .if1 .left))
+    let c9 = c .before .before .before .before .before .before .before .before .before in
+    let c10 = c9 .before in
+    let c16 = c10 .before .before .before .before .before .before in
+    let c22 = c16 .before .before .before .before .before .before in
+    let c26 = c22 .before .before .before .before in
+    let a = c26 .before .before in
+    let s = now (a .args .ticket) in
+    let e = a .args .ends in
+    let found = c26 .pins-at .ensures in
+    let t = c16 .spans-of .result in
+    let is = spans-read s (c22 .by-kind .ensures) (c16 .spans-of .ensures .0) (c16 .spans-of .ensures .1) in
+    let alone = c10 .lone-net .ensures ∙ lone-counted s e (a .pre .2) found t is in
+    let many = c .before .net-count .ensures ∙ nets-counted s e (a .pre .2) found t is in
+    let made = c .accepted .ensures .0 in (
+      made ∙ ap₂ (λ (k : ℕ) (ps : Pins). acceptedReading (problemAt s k ps)) many found
+          ∙ sym (going-on _ (c9 .no-lone .ensures ∙ ap noLone alone) (c .before .before .before .before .before .before .before .if1 .left)),
+      λ z. spans-as (ap (λ (r : Reading). r .problem) made) (c .accepted .ensures .1) (spans-any s 0 (c .before .net-count .result) _ is),
+    )
 
 pub judged-spec : {M : Type 1} → statement M
 judged-spec =
-    tie.close (tie.spec (λ c κs. search needs) (λ c κs. search needs) (λ c κs. search needs) (λ c κs. search needs) returns
-    (λ c κs. search needs) (λ c κs. search needs) (λ c κs. search needs) returns-2)
+    tie.close (tie.spec (λ c κs. search needs) (λ c. search needs) (λ c. search needs) (λ c. search needs) (λ c. search needs) (λ c. search needs)
+    (λ c κs. search needs) spans-of-requires (λ c κs. search needs) (λ c κs. search needs) (λ c κs. search needs) returns
+    (λ c κs. search needs) accepted-requires returns-2)

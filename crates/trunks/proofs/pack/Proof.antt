@@ -45,10 +45,10 @@ use denote.Triple.Spec.{Meets, tripleOf}
 use denote.Triple.Table.{entered, cited}
 use denote.Triple.Walked.{says, needs, Stays, stay-none, walkOf, goes-none, Walks, ends-at, walked, walk-meets}
 use denote.Exit.{yes}
-use Rattle.trunks.specs.declared.Span.{Span}
+use Rattle.nets.specs.declared.Span.{Span}
 use Rattle.trunks.proofs.Lent.{apart, together, others, cut-at, join-at}
-use Rattle.trunks.proofs.Span as T
-use Rattle.trunks.proofs.Span.Laws as T′
+use Rattle.nets.proofs.Span as T
+use Rattle.nets.proofs.Span.Laws as T′
 use Rattle.trunks.specs.Packing.{freshPacking, packed, Packable}
 use Rattle.trunks.specs.declared.Packing.{Packing}
 use Rattle.trunks.proofs.Packing as P
@@ -81,7 +81,7 @@ stayed = (stay-none (λ _. Row) yes, (stay-none (λ _. usize) yes, tt))
 abbrev PackSpans : {M : Type 1} (𝓤 : URA M) (H : Heap 𝓤) (A : Atoms 𝓤) (mem : Memory → SProp 𝓤) (run : Routine → Fun 𝓤) → Contract 𝓤
 PackSpans 𝓤 H A mem run = tripleOf 𝓤 H A pack-spans.signature (pack-spans.spec 𝓤 H A mem run)
 
-room-of : (m : ℕ) → m ≤ 180 → (m < 2 ^ 64) × (m * 3 < 2 ^ 63)
+room-of : (m : ℕ) → m ≤ 180 → (m < 2 ^ 64) × (m * 7 < 2 ^ 63)
 room-of m h = (omega arith, omega arith)
 
 module _ {M : Type 1} (𝓤 : URA M) (H : Heap 𝓤) (A : Atoms 𝓤) (W : Given 𝓤 H A) (mem : Memory → SProp 𝓤) (run : Routine → Fun 𝓤) (xs : List Span) (n : ℕ)

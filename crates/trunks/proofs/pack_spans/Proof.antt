@@ -47,8 +47,8 @@ use denote.Triple.Spec.{Meets, tripleOf}
 use denote.Triple.Table.{entered, cited}
 use denote.Triple.Walked.{says, needs, Stays, stay-none-slice, walkOf, goes-none-slice, Walks, ends-at, walked, walk-meets}
 use denote.Exit.{yes}
-use Rattle.trunks.specs.declared.Span.{Span}
-use Rattle.trunks.proofs.Span as T
+use Rattle.nets.specs.declared.Span.{Span}
+use Rattle.nets.proofs.Span as T
 use Rattle.trunks.proofs.Steps.{Going, starts, finds, goes-on, ends}
 use Rattle.trunks.specs.declared.Packing.{Packing}
 use Rattle.trunks.specs.Packing.{noSpan, freshPacking, placed, Packable}

@@ -41,11 +41,11 @@ use denote.Triple.Spec.{Meets, tripleOf}
 use denote.Triple.Table.{entered, cited}
 use denote.Triple.Walked.{says, needs, Stays, stay-none-slice, stay-none, walkOf, goes-none-slice, goes-none, Walks, ends-at, walked, walk-meets}
 use denote.Exit.{yes}
-use Rattle.trunks.specs.declared.Span.{Span}
-use Rattle.trunks.proofs.Span as T
-use Rattle.trunks.proofs.Span.Laws as T′
+use Rattle.nets.specs.declared.Span.{Span}
+use Rattle.nets.proofs.Span as T
+use Rattle.nets.proofs.Span.Laws as T′
 use Rattle.trunks.specs.declared.Packing.{Packing}
-use Rattle.trunks.specs.Packing.{noSpan, firstFree, placed}
+use Rattle.trunks.specs.Packing.{noSpan, placed, Fits}
 use Rattle.trunks.proofs.Packing as P
 use Rattle.trunks.proofs.Packing.Laws as P′
 use Rattle.trunks.proofs.place_one as place-one
@@ -73,7 +73,7 @@ abbrev stayed : Stays (place-next.ended .signature .params) (place-next.ended .k
 stayed = (stay-none-slice (0 ∷ []) tt (plain (λ _. R)) yes, (stay-none (λ _. usize) yes, (stay-none (λ _. B) yes, tt)))
 
 -- the byte offset of an element fits
-offset-fits : (n i : ℕ) → n * 3 < 2 ^ 63 → i < n → i * 3 < 2 ^ 64
+offset-fits : (n i : ℕ) → n * 7 < 2 ^ 63 → i < n → i * 7 < 2 ^ 64
 offset-fits n i r l = omega arith
 
 -- the contract that the proof cites
@@ -109,7 +109,7 @@ module _ {M : Type 1} (𝓤 : URA M) (H : Heap 𝓤) (A : Atoms 𝓤) (W : Given
   abbrev to : PlaceOne 𝓤 H A mem run .Ghost
   to = ((tt, tt, tt, (p, (elem, tt)), (machP p, (mach elem, tt))), tt)
 
-  goes : firstFree (p .lasts) (elem .left) < 180 → Is R elem (mach elem) → ent 𝓤 (emp 𝓤) (PlaceOne 𝓤 H A mem run .pre to)
+  goes : Fits p elem → Is R elem (mach elem) → ent 𝓤 (emp 𝓤) (PlaceOne 𝓤 H A mem run .pre to)
   goes fits g =
       qed W [] ∵ says ! fits $ nothing ! $ frame ! $ nothing ! $ owned ! R (Is R) (LL.makes T.the-type T′.the-plain 𝓤 H A) elem _ g $ fjoin ! $
       owned ! B (Is B) (LL.makes P.the-type P′.the-plain 𝓤 H A) p _ gp $ fjoin ! $ done !
@@ -126,7 +126,7 @@ module _ {M : Type 1} (𝓤 : URA M) (H : Heap 𝓤) (A : Atoms 𝓤) (W : Given
       nothing ! $ move ! (1 ∷ 0 ∷ []) $ join ! $ done !
 
   module _ (C : Calls 𝓤 H) (Λ : Loops 𝓤 H) (fm : FmC 𝓤 H (W .laws) C) (known : Triple 𝓤 (C #trunks·place-one) (PlaceOne 𝓤 H A mem run)) where
-    walk : Room R (length ys) → (k < length ys) × (firstFree (p .lasts) (elem .left) < 180) → ent 𝓤
+    walk : Room R (length ys) → (k < length ys) × Fits p elem → ent 𝓤
         (onEntry 𝓤 H A place-next.signature (κ, tt) (q, tt) a at)
         (WpFn 𝓤 H C Λ code.function (sliceVal (b, o) (length ys) ∷ vint w64 k ∷ val ∷ []) Post)
     walk gn l =
@@ -139,7 +139,7 @@ module _ {M : Type 1} (𝓤 : URA M) (H : Heap 𝓤) (A : Atoms 𝓤) (W : Given
         (from ! (stop !)) (init ! 4 refl (tt, record { fits = offset-fits (length ys) k (gn .1) (l .0) })) $
         assigns ! (bin ! (load ! (from ! (fld ! refl (stop !))) (look-in ! 10 (sub ! 0 refl (whole !)))) (load ! (from ! (stop !)) (look ! 4 refl)) tt)
         (from ! (stop !)) (init ! 2 refl (tt, tt)) $
-        rewrite ! 2 (λ (z : ℕ). ‵ (fat fullShare tyPtr l₅ 0 (vptr b z))) (sym (place-is 3 o k)) refl $
+        rewrite ! 2 (λ (z : ℕ). ‵ (fat fullShare tyPtr l₅ 0 (vptr b z))) (sym (place-is 7 o k)) refl $
         move ! (15 ∷ []) $ fsplit ! $ fsplit ! $ move ! (1 ∷ []) $ fsplit ! $ move ! (18 ∷ []) $ split ! $ move ! (3 ∷ 0 ∷ []) $
         looks-slice ! tt R (Is R) (shows 𝓤 H A R) mach (LL.tells T.the-type T′.the-laws) (LL.copy T.the-type T′.the-copy 𝓤 H A W) ys b o (λ q′.
         elem-out ! R (Is R) (shows 𝓤 H A R) mach (LL.tells T.the-type T′.the-laws) q′ ys k noSpan b o (l .0) (λ g.

@@ -1,11 +1,10 @@
 -- The nets passed that have several pins are listed.
-use Prim.Native.Nat.{_+_, _≤_, _<_, _-_}
+use Prim.Native.Nat.{_≤_, _<_, _-_}
 use mathlib.Core.Path.{_≡_}
 use native.Mathlib.Omega.{arith}
 use denote.Ref.{now}
 use Rattle.terms.specs.Limits.{largestNet}
 use Rattle.counting.specs.Counting.{count}
-use Rattle.counting.proofs.Sums.{bit-le}
 use Rattle.two_layer_gather.proofs.Listing.{Held, held-none}
 use Rattle.two_layer_gather.proofs.Gathering.{many, Picked, ranks-none, rank-le, picked-more, gathered}
 use borrow.Author.Needs.{needs}
@@ -42,8 +41,7 @@ array-write-highs c = omega (arith, few (c .before .before .before .before .befo
 add-found : tie.Need-add-found Inv-loop μ-loop
 add-found c =
     let c7 = c .before .before .before .before .before .before .before in
-    let c8 = c7 .before in
-    omega (arith, few c7, c .one-if .ensures, bit-le (many (now (c8 .before .args .pins)) (c8 .loop .m + 1)))
+    omega (arith, few c7, c .one-if .ensures .1)
 
 loop-again : tie.Need-loop-again Inv-loop μ-loop
 loop-again c =
@@ -52,7 +50,7 @@ loop-again c =
     let l = c8 .loop in
     let args = c8 .before .args in
     let more = picked-more (now (args .pins)) (now (args .first)) (now (args .last)) (now (args .other)) (l .nets) (l .tos) (l .lows)
-    (l .highs) (l .m) (l .found) (c .one-if .result) (c4 .when .result) (omega arith) (l .inv .1) (c .one-if .ensures)
+    (l .highs) (l .m) (l .found) (c .one-if .result) (c4 .when .result) (omega arith) (l .inv .1) (c .one-if .ensures .0)
     (c4 .when .ensures) (l .inv .2) in
     (omega arith, more .0, more .1)
 

@@ -10,11 +10,17 @@ use borrow.Author.Needs.{needs}
 use Rattle.two_layer_plan.proofs.find_plan.Statement.{statement}
 use Rattle.two_layer_plan.proofs.find_plan.Tie as tie
 
+leads-requires-2 : tie.Need-leads-requires-2
+leads-requires-2 c κs =
+    let c6 = c .before .before .before .before .before .before in
+    let c13 = c6 .before .before .before .before .before .before .before in
+    omega (arith, c13 .column-count .ensures, c13 .before .pre .0)
+
 is-solid-requires : tie.Need-is-solid-requires
 is-solid-requires c κs =
     let c8 = c .before .before .before .before .before .before .before .before in
     let c16 = c8 .before .before .before .before .before .before .before .before in
-    omega (arith, c16 .column-count .ensures, c16 .before .pre)
+    omega (arith, c16 .column-count .ensures, c16 .before .pre .0)
 
 returns : tie.Need-returns
 returns c =
@@ -30,11 +36,13 @@ returns c =
     let south = entry (now (c19 .before .args .south)) in
     let fs = c18 .firsts .ensures in
     let os = c17 .firsts2 .ensures in
+    let ns = rw (← c19 .column-count .ensures) at (c19 .before .pre .1) in
+    let ss = rw (← c19 .column-count .ensures) at (c19 .before .pre .2) in
     rw (← c19 .column-count .ensures) (record {
       solid = sym (c .before .if1 .taken) ∙ c2 .is-solid .ensures
           ∙ solid-same north south _ _ _ (c8 .leads .ensures south fs os) (c5 .leads2 .ensures north os fs);
-      norths = c14 .gather-side .ensures south fs os;
-      souths = c11 .gather-side2 .ensures north os fs;
+      norths = c14 .gather-side .ensures south ns fs os;
+      souths = c11 .gather-side2 .ensures north ss os fs;
       moves = λ e. absurd (true≢false e);
     })
 
@@ -45,7 +53,7 @@ find-moves-requires c κs =
     let c18 = c17 .before in
     let args = c18 .before .before .args in
     let fs = c18 .firsts .ensures in (
-      omega (arith, c18 .before .column-count .ensures, c18 .before .before .pre),
+      omega (arith, c18 .before .column-count .ensures, c18 .before .before .pre .0),
       none-first (now (args .south)) (now (args .north)) _ _ (c5 .leads2 .ensures (entry (now (args .north))) (c17 .firsts2 .ensures) fs),
       near (now (args .north)) _ _ fs,
     )
@@ -67,10 +75,12 @@ returns-2 c =
     let os = c18 .firsts2 .ensures in
     let start = c9 .leads .ensures south fs os in
     let goal = c6 .leads2 .ensures north os fs in
+    let ns = rw (← c20 .column-count .ensures) at (c20 .before .pre .1) in
+    let ss = rw (← c20 .column-count .ensures) at (c20 .before .pre .2) in
     rw (← c20 .column-count .ensures) (record {
       solid = sym (c .before .before .if1 .left) ∙ c3 .is-solid .ensures ∙ solid-same north south _ _ _ start goal;
-      norths = c15 .gather-side .ensures south fs os;
-      souths = c12 .gather-side2 .ensures north os fs;
+      norths = c15 .gather-side .ensures south ns fs os;
+      souths = c12 .gather-side2 .ensures north ss os fs;
       moves = λ e. c .find-moves .ensures _ _ goal
           (start-agrees (now (c20 .before .args .north)) _ _ fs (now (c20 .before .args .south)) _ start);
     })
@@ -78,5 +88,5 @@ returns-2 c =
 pub find-plan-spec : {M : Type 1} → statement M
 find-plan-spec =
     tie.close (tie.spec (λ c κs. search needs) (λ c κs. search needs) (λ c κs. search needs) (λ c κs. search needs)
-    (λ c κs. search needs) (λ c κs. search needs) (λ c κs. search needs) is-solid-requires (λ c κs. search needs) returns
+    (λ c κs. search needs) (λ c κs. search needs) leads-requires-2 is-solid-requires (λ c κs. search needs) returns
     find-moves-requires returns-2)
