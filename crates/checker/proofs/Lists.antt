@@ -8,13 +8,14 @@ use native.Mathlib.Omega.{arith}
 use native.Mathlib.Decide.{decLt, decLe}
 use lib.ListN.{List·getD-eq-default}
 use Rattle.counting.specs.Counting.{In}
-use Rattle.terms.specs.Kinds.{Side, north, south, west, east, box, byKind, hasSide, largestByte2}
+use Rattle.terms.specs.Kinds.{Side, north, south, west, east, box, hasSide}
 use Rattle.terms.specs.Limits.{largestNet, longestSide, widestGrid}
 use Rattle.terms.proofs.Laws.{Known, is-row, is-channel, is-box, is-two-layer, known, of-box}
 use Rattle.grid.specs.Grid.{Grid, places}
 use Rattle.grid.specs.Legal.{entry}
-use Rattle.problem.specs.Problem.{pinsIn, Good, shapeOf, widthOf}
+use Rattle.problem.specs.Problem.{pinsIn, Good, shapeOf}
 use Rattle.problem.specs.declared.Problem.{Problem}
+use Rattle.problem.proofs.Sizes.{width-in}
 use Rattle.check_link.specs.Marks.{at}
 use Rattle.check_sweep.specs.Pins.{pinAt, pinPlaces, southStart, westStart, eastStart}
 use Rattle.check_scan.specs.Scan.{PinList}
@@ -46,25 +47,16 @@ side-of b h =
     ]
 
 module _ (q : Problem) (good : Good q) (list : List ℕ) (l : PinList (q .pins) list) where
-  narrow : widthOf q ≤ longestSide
-  narrow = by-kind (known (q .kind) (good .kind)) (good .byte2)
-    where
-      by-kind : {kind b : ℕ} → Known kind → In b (largestByte2 kind) → byKind kind 1 1 1 b 1 ≤ longestSide
-      by-kind is-row h = omega arith
-      by-kind is-channel h = omega arith
-      by-kind is-box h = h .1
-      by-kind is-two-layer h = omega arith
-
   there : (s : Side) (a : ℕ) → 1 ≤ a → a ≤ room s → pinsIn (q .pins) s a ≡ at list (pinAt s a)
   there north a h i = entry-at (q .pins .north) a h ∙ sym (l .north (a - 1) (omega arith))
   there south a h i = entry-at (q .pins .south) a h ∙ sym (l .south (a - 1) (omega arith))
   there west a h i = elim (decLe a longestSide) [
     | yes o ↦ entry-at (q .pins .west) a h ∙ sym (l .west (a - 1) (omega arith))
-    | no o ↦ good .ends west a (omega (arith, narrow)) ∙ sym (l .west-past (a - 1) (omega arith) (omega arith))
+    | no o ↦ good .ends west a (omega (arith, width-in good)) ∙ sym (l .west-past (a - 1) (omega arith) (omega arith))
   ]
   there east a h i = elim (decLe a longestSide) [
     | yes o ↦ entry-at (q .pins .east) a h ∙ sym (l .east (a - 1) (omega arith))
-    | no o ↦ good .ends east a (omega (arith, narrow)) ∙ sym (l .east-past (a - 1) (omega arith) (omega arith))
+    | no o ↦ good .ends east a (omega (arith, width-in good)) ∙ sym (l .east-past (a - 1) (omega arith) (omega arith))
   ]
 
   past : (b : ℕ) → pinPlaces ≤ b → at list b ≡ 0

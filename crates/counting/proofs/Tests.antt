@@ -1,5 +1,5 @@
 -- Tests over 1 to top: what passes everywhere, what passes once, one test inside another; and the pigeonhole for two rows of numbers.
-use Prim.Native.Nat.{ℕ, zero, suc, _+_, _≤_, _<_}
+use Prim.Native.Nat.{ℕ, zero, suc, _+_, _≤_}
 use mathlib.Core.Path.{_≡_, refl, sym, ap, _∙_}
 use mathlib.Core.Logic.{_≢_, by-cases}
 use mathlib.Core.Bool.{Bool, true, false, not, _&&_, _||_, and-eq-true-iff, false≢true}
@@ -8,7 +8,7 @@ use native.Mathlib.Omega.{arith}
 use native.Mathlib.Numerals.{add-one}
 use lib.Dec.{eqb, leb}
 use borrow.Author.Tests.{eq-eqb, ne-eqb, le-leb, not-true}
-use Rattle.counting.specs.Counting.{In, bit, count, some, every, least}
+use Rattle.counting.specs.Counting.{In, bit, sum, count, some, every, least}
 use Rattle.counting.proofs.Sums.{split, bit-one, bit-zero, bit-le, sum-le, sum-add, sum-part, sum-zero, sum-change}
 use Rattle.counting.proofs.Counts.{some-of, some-none, pigeonhole}
 use Rattle.counting.proofs.Leasts.{least-first}
@@ -59,6 +59,11 @@ count-once t top a i e only =
       sum-zero (λ b. 0) top (λ b j. refl),
       sum-change (λ b. bit (t b)) (λ b. 0) a top i (λ b ne. split (t b) (λ q. absurd (ne (only b q))) bit-zero),
     )
+
+pub count-all : (t : ℕ → Bool) (top : ℕ) → ((a : ℕ) → In a top → t a ≡ true) → count t top ≡ top
+unfolding sum
+count-all t zero all = refl
+count-all t (suc top) all = omega (arith, count-all t top (λ a i. all a (omega arith)), bit-one (all (suc top) (omega arith)))
 
 both-le : (a b : Bool) → bit (a && b) ≤ bit b
 both-le true b = omega arith

@@ -2,15 +2,15 @@
 use Prim.Native.Nat.{ℕ, suc, _≤_}
 use mathlib.Core.Path.{_≡_, refl, ap, ap₂, _∙_}
 use mathlib.Core.List.{List}
-use native.Mathlib.Omega.{arith}
 use Rattle.counting.specs.Counting.{In, ceil}
 use Rattle.grid.specs.Grid.{upright}
 use Rattle.grid.specs.Legal.{entry}
-use Rattle.terms.specs.Kinds.{byKind, largestByte2, layersFor}
+use Rattle.terms.specs.Kinds.{byKind, layersFor}
 use Rattle.terms.specs.Limits.{largestNet, longestSide}
 use Rattle.density.specs.Density.{across, up, tracksFor, floor, floorOf}
 use Rattle.problem.specs.declared.Problem.{Problem}
 use Rattle.problem.specs.Problem.{Good, pinsIn, shapeOf, widthOf}
+use Rattle.problem.proofs.Sizes.{byte2-in, width-in}
 use Rattle.nets.specs.Tables.{firstHeld, lastHeld, NetTable}
 use Rattle.figures.specs.Crossings.{AlongSides}
 use Rattle.figures.specs.Figures.{acrossOf, tracksOf, figuresOf}
@@ -28,24 +28,15 @@ pub record Sizes (q : Problem) (long w b : ℕ) : Type 0 where
   pub width : w ≡ widthOf q
   pub byte2 : b ≡ q .byte2
 
-pub both-in : {q : Problem} → Good q → In (q .byte2) longestSide × In (widthOf q) longestSide
-both-in {q} good = small (known (q .kind) (good .kind)) (good .byte2)
-  where
-    small : {kind v : ℕ} → Known kind → In v (largestByte2 kind) → In v longestSide × In (byKind kind 1 1 1 v 1) longestSide
-    small is-row h = omega arith
-    small is-channel h = omega arith
-    small is-box h = (h, h)
-    small is-two-layer h = omega arith
-
 module _ {q : Problem} {long w b : ℕ} (good : Good q) (z : Sizes q long w b) where
   pub length-in : In long longestSide
   length-in = rw (z .length) (good .columns)
 
-  pub byte2-in : In b longestSide
-  byte2-in = rw (z .byte2) (both-in good .0)
+  pub byte2-fits : In b longestSide
+  byte2-fits = rw (z .byte2) (byte2-in good)
 
-  pub width-in : In w longestSide
-  width-in = rw (z .width) (both-in good .1)
+  pub width-fits : In w longestSide
+  width-fits = rw (z .width) (width-in good)
 
 -- a is across, u is up
 module _ {q : Problem} (good : Good q) {long w b a u t l f x y : ℕ} (z : Sizes q long w b)

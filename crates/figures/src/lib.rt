@@ -14,6 +14,7 @@ use terms::NET_ENTRIES;
 use terms::both;
 use terms::by_kind;
 use terms::larger;
+use terms::one_if;
 use terms::rounded_up;
 use terms::wide;
 ghost use mathlib.Core.Path.{_≡_};
@@ -103,12 +104,6 @@ fn coming(from: &[u8; NET_ENTRIES]) -> u8
         }
     }
     total
-}
-
-fn one_if(b: bool) -> usize
-    ensures { λ r. ⌜ (r ≡ bit b) × (r ≤ 1) ⌝ }
-{
-    if b { 1 } else { 0 }
 }
 
 // How many of the nets m and k begin, or end, at column c.

@@ -11,13 +11,13 @@ use borrow.Author.Tests.{eqb-true, eq-eqb, ne-eqb}
 use Rattle.counting.specs.Counting.{In, bit}
 use Rattle.counting.proofs.Sums.{split, bit-one, bit-zero, sum-part, sum-some}
 use Rattle.counting.proofs.Leasts.{least-in, least-before}
-use Rattle.terms.specs.Kinds.{Side, north, south, west, east, byKind, largestByte2}
-use Rattle.terms.specs.Limits.{largestNet, longestSide}
+use Rattle.terms.specs.Kinds.{Side, north, south, west, east}
+use Rattle.terms.specs.Limits.{largestNet}
 use Rattle.grid.specs.Grid.{Grid, Node, pin, places, columnOf, trackOf}
 use Rattle.grid.specs.Legal.{Pins}
 use Rattle.problem.specs.declared.Problem.{Problem}
 use Rattle.problem.specs.Problem.{pinsIn, pinCountOn, shapeOf, Good}
-use Rattle.terms.proofs.Laws.{Known, is-row, is-channel, is-box, is-two-layer, known}
+use Rattle.problem.proofs.Sizes.{side-fits}
 use Rattle.nets.proofs.Totals.{count-whole}
 use Rattle.nets.specs.Spans.{PinAt, Reach, SpanOf}
 use Rattle.nets.specs.Tables.{pinCountTo, holdsAt, firstHeld, lastHeld, Spanned, lowOf, highOf, spanFrom}
@@ -197,18 +197,6 @@ module _ (g : Grid) (p : Pins) (m : ℕ) where
 
 -- ---- a net's span, read from the lists that tell it
 
-narrow : {kind b : ℕ} → Known kind → In b (largestByte2 kind) → byKind kind 1 1 1 b 1 ≤ longestSide
-narrow is-row h = omega arith
-narrow is-channel h = omega arith
-narrow is-box h = h .1
-narrow is-two-layer h = omega arith
-
-fits : {q : Problem} → Good q → (s : Side) → places (shapeOf q) s ≤ longestSide
-fits good north = good .columns .1
-fits good south = good .columns .1
-fits {q} good west = narrow (known (q .kind) (good .kind)) (good .byte2)
-fits {q} good east = narrow (known (q .kind) (good .kind)) (good .byte2)
-
 pub span-exact : {q : Problem} {first last norths souths wests easts : List ℕ} {n : ℕ} → Good q → n ≡ q .n .0
     → Spanned q first last norths souths wests easts → (m : ℕ) → In m largestNet
     → SpanOf (shapeOf q) (pinsIn (q .pins)) m (spanFrom first last norths souths wests easts m n)
@@ -223,4 +211,4 @@ span-exact {q} {first} {last} {norths} {souths} {wests} {easts} good e t m i =
     })
   where
     whole : (s : Side) → pinCountTo (pinsIn (q .pins) s) (places (shapeOf q) s) m ≡ pinCountOn (pinsIn (q .pins)) m s
-    whole s = count-whole (shapeOf q) (pinsIn (q .pins)) s (fits good s) (good .ends s) m (i .0)
+    whole s = count-whole (shapeOf q) (pinsIn (q .pins)) s (side-fits good s) (good .ends s) m (i .0)

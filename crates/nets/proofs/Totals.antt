@@ -1,13 +1,13 @@
 -- The table's counts are those of all pins, and together they count each pin once.
-use Prim.Native.Nat.{ℕ, zero, suc, _+_, _≤_, _<_}
-use mathlib.Core.Path.{_≡_, refl, sym, ap, _∙_}
+use Prim.Native.Nat.{ℕ, _+_, _≤_, _<_}
+use mathlib.Core.Path.{_≡_, refl, sym, _∙_}
 use mathlib.Core.Logic.{by-cases}
 use native.Mathlib.Omega.{arith}
 use native.Mathlib.Decide.{ℕ-discrete}
 use lib.Dec.{eqb, leb}
 use borrow.Author.Tests.{eq-eqb, ne-eqb, eqb-true, le-leb, lt-leb}
 use Rattle.counting.specs.Counting.{In, bit, sum, count}
-use Rattle.counting.proofs.Sums.{bit-one, bit-zero, sum-same, sum-add, sum-zero, sum-swap}
+use Rattle.counting.proofs.Sums.{bit-one, bit-zero, sum-same, sum-add, sum-zero, sum-past, sum-swap}
 use Rattle.counting.proofs.Tests.{count-once}
 use Rattle.terms.specs.Limits.{longestSide, largestNet}
 use Rattle.terms.specs.Kinds.{Side, north, south, west, east}
@@ -17,14 +17,6 @@ use Rattle.problem.specs.declared.Problem.{Problem}
 use Rattle.problem.specs.Problem.{pinsIn, pinCountOn, pinCount, filledOn, filled, widthOf, shapeOf}
 use Rattle.nets.specs.declared.Spans.{Spans}
 use Rattle.nets.specs.Tables.{pinCountTo, SpansOf, pinSum}
-
--- what is 0 past n adds nothing
-sum-past : (f : ℕ → ℕ) (n top : ℕ) → n ≤ top → ((a : ℕ) → n < a → f a ≡ 0) → sum f n ≡ sum f top
-unfolding sum
-sum-past f n zero le z = let e : n ≡ 0 = omega arith in rw e
-sum-past f n (suc top) le z = by-cases (ℕ-discrete n (suc top))
-    (λ q. ap (sum f) q)
-    (λ ne. omega (arith, sum-past f n top (omega arith) z, z (suc top) (omega arith)))
 
 -- the places past a side's end are empty
 pub count-whole : (g : Grid) (p : Pins) (s : Side) → places g s ≤ longestSide → ((a : ℕ) → places g s < a → p s a ≡ 0)

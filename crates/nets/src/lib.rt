@@ -133,11 +133,7 @@ fn net_at(side: &[u8; LONGEST_SIDE], i: usize) -> usize
 }
 
 // What two sides of so many places tell. No branch depends on the nets: an empty place is entered at 0, which is cleared at the end.
-pub fn pin_table<'a>(
-    a: &'a [u8; LONGEST_SIDE],
-    b: &'a [u8; LONGEST_SIDE],
-    places: usize,
-) -> PinTable
+fn pin_table<'a>(a: &'a [u8; LONGEST_SIDE], b: &'a [u8; LONGEST_SIDE], places: usize) -> PinTable
     requires { ⌜ (places ≤ longestSide) × Numbered (now a) × Numbered (now b) ⌝ }
     ensures { λ r. ⌜ Tabled (entry (now (a .entry))) (entry (now (b .entry))) places r ⌝ }
 {

@@ -6,7 +6,7 @@ use mathlib.Core.Logic.{_≢_}
 use native.Mathlib.Omega.{arith}
 use native.Mathlib.Decide.{ℕ-discrete}
 use lib.Dec.{leb, eqb}
-use borrow.Author.Tests.{leb-true, ne-eqb}
+use borrow.Author.Tests.{leb-true, le-leb, ne-eqb}
 use native.Mathlib.Nat.{mul-le-mul-right}
 use Rattle.counting.specs.Counting.{In, ceil}
 use Rattle.counting.proofs.Counts.{ceil-le}
@@ -17,6 +17,9 @@ use Rattle.terms.specs.Refusals.{unless}
 
 pub within-in : (a top : ℕ) → within a top ≡ true → In a top
 within-in a top e = let (l, h) = and-eq-true-iff (leb 1 a) (leb a top) .0 e in (leb-true 1 a l, leb-true a top h)
+
+pub within-of : (a top : ℕ) → In a top → within a top ≡ true
+within-of a top i = rw (le-leb 1 a (i .0), le-leb a top (i .1))
 
 pub passed : (t : Bool) (r s : Refusal) → (r .number ≡ 0 → ⊥) → unless t r s .number ≡ 0 → (t ≡ true) × (s .number ≡ 0)
 passed true r s h e = (refl, e)

@@ -3,7 +3,7 @@ ghost use mathlib.Core.Path.{_≡_};
 ghost use mathlib.Core.Bool.{_&&_, _||_};
 ghost use Prim.Native.Nat.{_≤_, _<_, min, max};
 ghost use Rattle.terms.specs.Limits.{longestSide, largestNet, byteValues, within};
-ghost use Rattle.counting.specs.Counting.{In, ceil};
+ghost use Rattle.counting.specs.Counting.{In, bit, ceil};
 ghost use Rattle.terms.specs.Kinds.{byKind, isKind, largestSideMap, largestByte2, widest};
 ghost use Rattle.terms.specs.Refusals.{refusal};
 
@@ -149,6 +149,13 @@ pub fn either(a: bool, b: bool) -> bool
     ensures { λ r. ⌜ r ≡ (a || b) ⌝ }
 {
     if a { true } else { b }
+}
+
+// 1 for yes, 0 for no.
+pub fn one_if(b: bool) -> usize
+    ensures { λ r. ⌜ (r ≡ bit b) × (r ≤ 1) ⌝ }
+{
+    if b { 1 } else { 0 }
 }
 
 pub fn smaller(a: usize, b: usize) -> usize

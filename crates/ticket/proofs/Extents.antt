@@ -32,6 +32,7 @@ nets-extent s (suc k) i l e =
 pub record SideRead (s : List ℕ) (p : ℕ) (c : Cursor) : Type 0 where
   pub before : c .refusal .number ≡ 0
   pub map : c .at + mapBytes p ≤ length s
+  pub good : goodMap s (c .at) p ≡ true
   pub nets : netsOf s (c .at + mapBytes p) (standingBits s (c .at) p) .refusal .number ≡ 0
   pub end : after s true p c ≡ netsOf s (c .at + mapBytes p) (standingBits s (c .at) p)
 
@@ -43,7 +44,7 @@ side-read s p c e =
     let here : after s true p c ≡ sideOf s (c .at) p = rw (eq-eqb (c .refusal .number) 0 z) in
     let a = unless-good (leb (c .at + mapBytes p) (length s)) 1 (length s) _ (λ q. omega arith) (ap (λ (x : Cursor). x .refusal .number) (sym here) ∙ e) in
     let b = unless-good (goodMap s (c .at) p) 6 (c .at) _ (λ q. omega arith) (a .1) in
-    record { before = z; map = leb-true _ _ (a .0); nets = b .1; end = here ∙ a .2 ∙ b .2 })
+    record { before = z; map = leb-true _ _ (a .0); good = b .0; nets = b .1; end = here ∙ a .2 ∙ b .2 })
     (λ n. absurd (n (rw (ne-eqb (c .refusal .number) 0 n) at e)))
 
 side-lacking : (s : List ℕ) (p : ℕ) (c : Cursor) → after s false p c ≡ c

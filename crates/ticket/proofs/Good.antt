@@ -16,13 +16,14 @@ use Rattle.grid.specs.Legal.{Pins as GridPins}
 use Rattle.ticket.proofs.Seconds.{second}
 use Rattle.ticket.proofs.Sited.{found, header-fields, small, bare, past, inside, fits}
 use Rattle.counting.proofs.Leasts.{least-zero}
-use Rattle.ticket.proofs.Laws.{unless-good, Fields}
+use Rattle.ticket.proofs.Laws.{unless-good, header-good, Fields}
 use Rattle.ticket_sides.specs.declared.Cursor.{Cursor}
 use Rattle.ticket.specs.declared.Reading.{Reading}
 use Rattle.problem.specs.declared.Problem.{Problem}
 use Rattle.problem.specs.Problem.{pinsIn, pinCount, loneNet, netCount, Another, Good, shapeOf}
 use Rattle.ticket_sides.specs.Format.{byte}
 use Rattle.ticket_sides.specs.Stages.{headerOf, eastEnd}
+use Rattle.ticket_sides.specs.Steps.{Header}
 use Rattle.ticket.specs.Read.{leftOver, noLone, acceptedReading, problemAt, orRefused, ticketOf, problemOf}
 
 -- ---- the stages were passed
@@ -37,6 +38,7 @@ abbrev number : Reading → ℕ
 number t = t .refusal .number
 
 pub record Read (s : List ℕ) : Type 0 where
+  pub head : Header s
   pub header : Fields (byte s 0) (byte s 1) (byte s 2) (byte s 3)
   pub sides : eastEnd s .refusal .number ≡ 0
   pub end : length s ≤ eastEnd s .at
@@ -51,6 +53,7 @@ passed s e =
     let c = stage (leftOver s (eastEnd s .at)) _ (ap number (sym (b .1)) ∙ ap number (sym (a .1)) ∙ e) in
     let d = stage (noLone (loneNet (pinsIn (found s)))) _ (ap number (sym (c .1)) ∙ ap number (sym (b .1)) ∙ ap number (sym (a .1)) ∙ e) in
     record {
+      head = header-good s (a .0);
       header = header-fields s (a .0);
       sides = b .0;
       end = leb-true _ _ (unless-good (leb (length s) (eastEnd s .at)) 8 _ _ (λ q. omega arith) (c .0) .0);

@@ -7,6 +7,7 @@ use native.Mathlib.Omega.{arith}
 use lib.Dec.{leb, ltb}
 use lib.ListN.{length}
 use borrow.Author.Tests.{eq-eqb, ne-eqb, leb-true}
+use Rattle.counting.specs.Counting.{In}
 use Rattle.terms.specs.Kinds.{isKind, largestByte2, largestSideMap}
 use Rattle.terms.specs.Limits.{largestNet, longestSide, within}
 use Rattle.terms.specs.Refusals.{unless}
@@ -63,13 +64,13 @@ header-good s e =
 
 -- ---- net bytes
 
-pub nets-good : (s : List ℕ) (k i : ℕ) → netsOf s i (suc k) .refusal .number ≡ 0 → (i < length s) × (byte s i ≤ largestNet) ×
+pub nets-good : (s : List ℕ) (k i : ℕ) → netsOf s i (suc k) .refusal .number ≡ 0 → (i < length s) × In (byte s i) largestNet ×
     (netsOf s (i + 1) k .refusal .number ≡ 0) × (netsOf s i (suc k) ≡ netsOf s (i + 1) k)
 unfolding netsOf
 nets-good s k i e =
     let a = unless-good (ltb i (length s)) 1 (length s) _ (λ q. omega arith) e in
     let b = unless-good (within (byte s i) largestNet) 7 i _ (λ q. omega arith) (a .1) in
-    (leb-true _ _ (a .0), within-in _ _ (b .0) .1, b .1, a .2 ∙ b .2)
+    (leb-true _ _ (a .0), within-in _ _ (b .0), b .1, a .2 ∙ b .2)
 
 -- ---- the stages of the whole reading
 

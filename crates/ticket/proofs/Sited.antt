@@ -47,7 +47,7 @@ record NetsUpTo (p : ℕ) (l : List ℕ) : Type 0 where
 
 nets-small : (s : List ℕ) (k i j : ℕ) → netsOf s i k .refusal .number ≡ 0 → j < k → byte s (i + j) ≤ largestNet
 nets-small s zero i j e h = absurd (omega arith)
-nets-small s (suc k) i zero e h = let q : i + 0 ≡ i = omega arith in rw q (nets-good s k i e .1)
+nets-small s (suc k) i zero e h = let q : i + 0 ≡ i = omega arith in rw q (nets-good s k i e .1 .1)
 nets-small s (suc k) i (suc j) e h = let q : i + suc j ≡ i + 1 + j = omega arith in rw q (nets-small s k (i + 1) j (nets-good s k i e .2) (omega arith))
 
 module _ (s : List ℕ) (from p : ℕ) (e : netsOf s (from + mapBytes p) (standingBits s from p) .refusal .number ≡ 0) where

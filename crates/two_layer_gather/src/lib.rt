@@ -6,6 +6,7 @@ use terms::LONGEST_SIDE;
 use terms::NET_ENTRIES;
 use terms::both;
 use terms::entry_of;
+use terms::one_if;
 use terms::wide;
 use two_layer_cuts::COLUMN_ENTRIES;
 use two_layer_cuts::Operations;
@@ -21,12 +22,6 @@ ghost use Rattle.nets.specs.Tables.{pinCountTo, NetTable};
 ghost use Rattle.two_layer_law.specs.Moves.{firstOn, lastOn, leads, Gathered};
 ghost use Rattle.two_layer_cuts.specs.Rows.{opsOf, Row};
 ghost use Rattle.two_layer_gather.specs.Tables.{Table};
-
-fn one_if(b: bool) -> usize
-    ensures { λ r. ⌜ (r ≡ bit b) × (r ≤ 1) ⌝ }
-{
-    if b { 1 } else { 0 }
-}
 
 // The first of two columns that is one.
 fn first_of(a: u8, b: u8) -> u8

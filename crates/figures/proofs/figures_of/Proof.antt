@@ -6,7 +6,7 @@ use Rattle.counting.specs.Counting.{ceil}
 use Rattle.terms.specs.Kinds.{north, south, west, east, byKind}
 use Rattle.density.specs.Density.{floor}
 use Rattle.problem.specs.Problem.{Good, widthOf}
-use Rattle.figures.proofs.Bounds.{sides, Sizes, length-in, byte2-in, width-in, figures-are}
+use Rattle.figures.proofs.Bounds.{sides, Sizes, length-in, byte2-fits, width-fits, figures-are}
 use Rattle.figures.proofs.figures_of.Statement.{statement}
 use Rattle.figures.proofs.figures_of.Tie as tie
 
@@ -36,25 +36,25 @@ up-for-requires c κs =
     let d = c .before .before .before .before .before in
     let p = d .before .before .before .before .before .before .before .before in
     let z = sizes d in
-    sides (widthOf (p .args .q)) (z .width) (rw (z .width) at (width-in (p .pre .0) z)) (p .pre .0 .numbered west) (p .pre .0 .numbered east)
+    sides (widthOf (p .args .q)) (z .width) (rw (z .width) at (width-fits (p .pre .0) z)) (p .pre .0 .numbered west) (p .pre .0 .numbered east)
     (p .pre .1 .tracks .first) (p .pre .1 .tracks .last)
 
 tracks-for-requires : tie.Need-tracks-for-requires
 tracks-for-requires c κs =
     let d = c .before .before .before in
     let k = d .before .before .before in
-    (byte2-in (good k) (sizes k), d .density .ensures .small)
+    (byte2-fits (good k) (sizes k), d .density .ensures .small)
 
 layers-for-requires : tie.Need-layers-for-requires
 layers-for-requires c κs =
     let k = c .before .before .before .before .before .before .before in
-    (good k .columns, byte2-in (good k) (sizes k))
+    (good k .columns, byte2-fits (good k) (sizes k))
 
 rounded-up-requires : tie.Need-rounded-up-requires
 rounded-up-requires c κs =
     let d = c .before .before .before .before .before in
     let k = d .before .before .before in
-    (d .density .ensures .small, width-in (good k) (sizes k))
+    (d .density .ensures .small, width-fits (good k) (sizes k))
 
 rounded-up-requires-2 : tie.Need-rounded-up-requires-2
 rounded-up-requires-2 c κs =

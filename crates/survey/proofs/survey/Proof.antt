@@ -5,7 +5,7 @@ use borrow.Author.Tests.{eq-eqb, ne-eqb}
 use borrow.Author.Needs.{needs}
 use Rattle.nets.proofs.Totals.{total-filled}
 use Rattle.figures.specs.declared.Figures.{Figures}
-use Rattle.figures.proofs.Bounds.{both-in}
+use Rattle.problem.proofs.Sizes.{width-in}
 use Rattle.ticket.proofs.Good.{reading-good}
 use Rattle.survey.specs.Survey.{answered, surveyed, surveyOf}
 use Rattle.survey.proofs.survey.Statement.{statement}
@@ -30,11 +30,12 @@ returns-2 c =
     let q = c21 .parse-spans .result .problem in
     let read = c21 .parse-spans .ensures in
     let good = reading-good _ (read .0) (c18 .if1 .left) in
-    let total = c .before .pin-total .ensures ∙ total-filled q (c21 .parse-spans .result .spans) (good .columns .1) (both-in good .1 .1) (good .ends)
+    let total = c .before .pin-total .ensures ∙ total-filled q (c21 .parse-spans .result .spans) (good .columns .1) (width-in good .1) (good .ends)
     (read .1 (c18 .if1 .left)) (good .numbered) in
     simp (eq-eqb _ _ (c18 .if1 .left)) (c .answered .ensures ∙ ap₂ (λ (f : Figures) (k : ℕ). answered q f k) (c7 .figures-of .ensures) total)
     ∙ ap surveyed (read .0)
 
 pub survey-spec : {M : Type 1} → statement M
 survey-spec =
-    tie.close (tie.spec (λ c κs. search needs) (λ c κs. search needs) returns figures-of-requires (λ c κs. search needs) (λ c κs. search needs) returns-2)
+    tie.close (tie.spec (λ c κs. search needs) (λ c κs. search needs) returns figures-of-requires (λ c κs. search needs)
+    (λ c κs. search needs) returns-2)
