@@ -14,10 +14,9 @@
 --   lineFor a, lineOf s
 --                    the line of an answer and of a ticket; "Each line ends in one newline"
 --   longestLine      no line is longer
---   lineOver l out   a buffer with the line written to its front; a buffer that is too short is left as it is
 --   Lined s before after r
---                    what survey_line does: it answers the length that the line needs, and whether the buffer has it
---   Says, Adds       not part of the definition, but what the functions build the line from: what a line holds, and what is added to it
+--                    what survey_line does: it answers the length that the line needs, and whether the buffer has it; the line is written
+--                    to the buffer's front, and one that is too short is left as it is
 use Prim.Native.Nat.{ℕ, zero, suc, _+_, _/_, _%_, _≤_}
 use Prim.Native.Char.{code}
 use Prim.Native.String.{String, [] as end, _∷_ as _then_}
@@ -25,11 +24,11 @@ use mathlib.Core.Path.{_≡_}
 use mathlib.Core.Bool.{cond}
 use mathlib.Core.List.{List, [], _∷_, _++_}
 use lib.Dec.{ltb, leb}
-use lib.ListN.{length, take, drop}
+use lib.ListN.{length}
 use Rattle.terms.specs.Kinds.{row, channel, box, twoLayer, byKind, word}
 use Rattle.terms.specs.Refusals.{accepted, unless}
+use Rattle.output.specs.Writing.{over}
 use Rattle.survey.specs.declared.SurveyAnswer.{SurveyAnswer}
-use Rattle.survey.specs.declared.Line.{Line}
 use Rattle.survey.specs.declared.LineAnswer.{LineAnswer}
 use Rattle.survey.specs.Survey.{surveyOf}
 
@@ -79,21 +78,8 @@ lineOf s = lineFor (surveyOf s)
 abbrev pub longestLine : ℕ
 longestLine = 224
 
-unfoldable pub lineOver : List ℕ → List ℕ → List ℕ
-lineOver l out = cond (leb (length l) (length out)) (l ++ drop (length l) out) out
-
 pub record Lined (s before after : List ℕ) (r : LineAnswer) : Type 0 where
   pub needed : r .length ≡ length (lineOf s)
   pub short : r .length ≤ longestLine
   pub written : r .ok ≡ leb (length (lineOf s)) (length before)
-  pub bytes : after ≡ lineOver (lineOf s) before
-
--- ---- what the functions build the line from
-
-pub record Says (line : Line) (l : List ℕ) : Type 0 where
-  pub size : line .used ≡ length l
-  pub bytes : take (line .used) (line .bytes) ≡ l
-
-pub record Adds (line : Line) (l : List ℕ) (r : Line) : Type 0 where
-  pub size : r .used ≡ line .used + length l
-  pub bytes : take (r .used) (r .bytes) ≡ take (line .used) (line .bytes) ++ l
+  pub bytes : after ≡ over (lineOf s) before

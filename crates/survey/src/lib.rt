@@ -3,6 +3,11 @@ use figures::Figures;
 use grid::Column;
 use grid::Layer;
 use grid::Track;
+use output::Output;
+use output::append;
+use output::blank;
+use output::deliver;
+use output::put;
 use problem::Problem;
 use terms::BOX;
 use terms::CHANNEL;
@@ -11,12 +16,13 @@ use terms::Refusal;
 use terms::TWO_LAYER;
 use terms::wide;
 ghost use mathlib.Core.Path.{_≡_};
-ghost use Prim.Native.Nat.{_+_, _≤_, _<_};
-ghost use mathlib.Core.List.{[], _∷_, _++_};
-ghost use lib.ListN.{length, take, drop};
+ghost use Prim.Native.Nat.{_+_, _≤_};
+ghost use mathlib.Core.List.{_++_};
+ghost use lib.ListN.{length};
 ghost use Rattle.survey.specs.Survey.{answered, refused, surveyOf};
 ghost use Rattle.survey.specs.Line.{decimal, counted, boxLine, trunkLine, twoLayerLine, refusedLine, lineFor, longestLine};
-ghost use Rattle.survey.specs.Line.{Lined, Says, Adds};
+ghost use Rattle.survey.specs.Line.{Lined};
+ghost use Rattle.output.specs.Building.{Says, Adds};
 
 pub struct SurveyAnswer {
     pub refusal: Refusal,
@@ -104,42 +110,14 @@ pub fn survey(ticket: &[u8]) -> SurveyAnswer
 
 pub const LONGEST_LINE: usize = 224;
 
-// A line as it is built: its first `used` bytes.
-struct Line {
-    pub bytes: [u8; LONGEST_LINE],
-    pub used: usize,
-}
-
 // What survey_line answers: whether the line was written, and its length.
 pub struct LineAnswer {
     pub ok: bool,
     pub length: usize,
 }
 
-fn blank() -> Line
-    ensures { λ r. ⌜ Says r [] ⌝ }
-{
-    Line {
-        bytes: [0u8; LONGEST_LINE],
-        used: 0,
-    }
-}
-
-fn put(line: Line, b: u8) -> Line
-    requires { ⌜ line .used < longestLine ⌝ }
-    ensures { λ r. ⌜ Adds line (b ∷ []) r ⌝ }
-{
-    let mut bytes = line.bytes;
-    let used = line.used;
-    bytes[used] = b;
-    Line {
-        bytes,
-        used: used + 1,
-    }
-}
-
 // The digits before the last, and then the last.
-fn number(line: Line, x: usize) -> Line
+fn number(line: Output, x: usize) -> Output
     requires { ⌜ line .used + length (decimal x) ≤ longestLine ⌝ }
     ensures { λ r. ⌜ Adds line (decimal x) r ⌝ }
 {
@@ -150,32 +128,17 @@ fn number(line: Line, x: usize) -> Line
     put(front, 48 + (x % 10) as u8)
 }
 
-fn word(line: Line, words: &[u8]) -> Line
-    requires { ⌜ line .used + length (now words) ≤ longestLine ⌝ }
-    ensures { λ r. ⌜ Adds line (now (words .entry)) r ⌝ }
-{
-    let mut bytes = line.bytes;
-    let mut used = line.used;
-    let mut i = 0;
-    while i < words.len() {
-        bytes[used] = words[i];
-        used += 1;
-        i += 1;
-    }
-    Line { bytes, used }
-}
-
 // Words and then a number, which has 20 digits at most.
-fn field(line: Line, words: &[u8], x: usize) -> Line
+fn field(line: Output, words: &[u8], x: usize) -> Output
     requires { ⌜ line .used + length (now words) + 20 ≤ longestLine ⌝ }
     ensures { λ r. ⌜ Adds line (now (words .entry) ++ decimal x) r ⌝ }
     ensures { λ r. ⌜ r .used ≤ line .used + length (now (words .entry)) + 20 ⌝ }
 {
-    number(word(line, words), x)
+    number(append(line, words), x)
 }
 
 // What every line has: nets, pins and across.
-fn counts(line: Line, a: SurveyAnswer) -> Line
+fn counts(line: Output, a: SurveyAnswer) -> Output
     requires { ⌜ line .used + 80 ≤ longestLine ⌝ }
     ensures { λ r. ⌜ Adds line (counted a) r ⌝ }
     ensures { λ r. ⌜ r .used ≤ line .used + 80 ⌝ }
@@ -185,7 +148,7 @@ fn counts(line: Line, a: SurveyAnswer) -> Line
     field(line, b" across ", a.across)
 }
 
-fn box_line(a: SurveyAnswer) -> Line
+fn box_line(a: SurveyAnswer) -> Output
     ensures { λ r. ⌜ Says r (boxLine a) ⌝ }
     ensures { λ r. ⌜ r .used ≤ longestLine ⌝ }
 {
@@ -199,7 +162,7 @@ fn box_line(a: SurveyAnswer) -> Line
 }
 
 // A row or a channel, its first words given.
-fn trunk_line(a: SurveyAnswer, words: &[u8]) -> Line
+fn trunk_line(a: SurveyAnswer, words: &[u8]) -> Output
     requires { ⌜ length (now words) ≤ 15 ⌝ }
     ensures { λ r. ⌜ Says r (trunkLine (now (words .entry)) a) ⌝ }
     ensures { λ r. ⌜ r .used ≤ longestLine ⌝ }
@@ -212,7 +175,7 @@ fn trunk_line(a: SurveyAnswer, words: &[u8]) -> Line
 }
 
 // A two-layer channel, whose tracks only its wiring tells.
-fn two_layer_line(a: SurveyAnswer) -> Line
+fn two_layer_line(a: SurveyAnswer) -> Output
     ensures { λ r. ⌜ Says r (twoLayerLine a) ⌝ }
     ensures { λ r. ⌜ r .used ≤ longestLine ⌝ }
 {
@@ -222,7 +185,7 @@ fn two_layer_line(a: SurveyAnswer) -> Line
     put(line, b'\n')
 }
 
-fn refused_line(a: SurveyAnswer) -> Line
+fn refused_line(a: SurveyAnswer) -> Output
     ensures { λ r. ⌜ Says r (refusedLine a) ⌝ }
     ensures { λ r. ⌜ r .used ≤ longestLine ⌝ }
 {
@@ -231,7 +194,7 @@ fn refused_line(a: SurveyAnswer) -> Line
     put(line, b'\n')
 }
 
-fn line_for(a: SurveyAnswer) -> Line
+fn line_for(a: SurveyAnswer) -> Output
     ensures { λ r. ⌜ Says r (lineFor a) ⌝ }
     ensures { λ r. ⌜ r .used ≤ longestLine ⌝ }
 {
@@ -253,28 +216,15 @@ fn line_for(a: SurveyAnswer) -> Line
     blank()
 }
 
-fn copy(line: Line, out: &mut [u8])
-    requires { ⌜ (line .used ≤ longestLine) × (line .used ≤ length (now out)) ⌝ }
-    ensures { λ _. ⌜ now (out .exit) ≡ take (line .used) (line .bytes) ++ drop (line .used) (now (out .entry)) ⌝ }
-{
-    let bytes = line.bytes;
-    let used = line.used;
-    let mut i = 0;
-    while i < used {
-        out[i] = bytes[i];
-        i += 1;
-    }
-}
-
 // Public call Survey, as the program's line: written to the front of `out`, or, where `out` is too short, only measured.
 pub fn survey_line(ticket: &[u8], out: &mut [u8]) -> LineAnswer
     ensures { λ r. ⌜ Lined (now (ticket .entry)) (now (out .entry)) (now (out .exit)) r ⌝ }
 {
     let line = line_for(survey(ticket));
     let length = line.used;
-    if out.len() < length {
-        return LineAnswer { ok: false, length };
+    let r = deliver(line, out);
+    LineAnswer {
+        ok: r.refusal.number == 0,
+        length,
     }
-    copy(line, out);
-    LineAnswer { ok: true, length }
 }

@@ -6,12 +6,13 @@ use native.Mathlib.Omega.{arith}
 use lib.ListN.{length, length-append}
 use borrow.Fn.Kinds.{In}
 use borrow.Fn.PlainCycle.{Measures, is, falls, and}
+use Rattle.output.proofs.Laws.{adds-adds}
 use Rattle.survey.specs.Line.{decimal}
-use Rattle.survey.proofs.Lines.{adds-adds, decimal-one, decimal-more}
+use Rattle.survey.proofs.Lines.{decimal-one, decimal-more}
 use Rattle.survey.proofs.number.Reads as number
 use Rattle.survey.proofs.number.Kinds as number-kinds
 use Rattle.survey.proofs.+number.Lts-number as number-lts
-use Rattle.survey.proofs.put.Reads as put-reads
+use Rattle.output.proofs.put.Reads as put-reads
 use Rattle.survey.proofs.+number.{statement}
 use Rattle.survey.proofs.+number.Tie.{close}
 

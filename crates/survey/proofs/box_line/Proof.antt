@@ -1,7 +1,7 @@
 -- `survey::box_line` meets its contract: field by field; 57 bytes of words and 8 numbers fill the line at most.
 use native.Mathlib.Omega.{arith}
 use borrow.Author.Needs.{needs}
-use Rattle.survey.proofs.Lines.{says-adds}
+use Rattle.output.proofs.Laws.{says-adds}
 use Rattle.survey.proofs.box_line.Statement.{statement}
 use Rattle.survey.proofs.box_line.Tie as tie
 

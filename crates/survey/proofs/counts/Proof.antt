@@ -2,7 +2,8 @@
 use native.Mathlib.Omega.{arith}
 use borrow.Author.Needs.{needs}
 use Rattle.survey.specs.Line.{text}
-use Rattle.survey.proofs.Lines.{adds-adds, adds-same}
+use Rattle.output.proofs.Laws.{adds-adds}
+use Rattle.survey.proofs.Lines.{adds-same}
 use Rattle.survey.proofs.counts.Statement.{statement}
 use Rattle.survey.proofs.counts.Tie as tie
 

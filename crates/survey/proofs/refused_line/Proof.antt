@@ -2,7 +2,8 @@
 use native.Mathlib.Omega.{arith}
 use borrow.Author.Needs.{needs}
 use Rattle.survey.specs.Line.{text}
-use Rattle.survey.proofs.Lines.{says-adds, adds-same}
+use Rattle.output.proofs.Laws.{says-adds}
+use Rattle.survey.proofs.Lines.{adds-same}
 use Rattle.survey.proofs.refused_line.Statement.{statement}
 use Rattle.survey.proofs.refused_line.Tie as tie
 

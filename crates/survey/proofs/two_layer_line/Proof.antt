@@ -1,7 +1,7 @@
 -- `survey::two_layer_line` meets its contract: field by field.
 use native.Mathlib.Omega.{arith}
 use borrow.Author.Needs.{needs}
-use Rattle.survey.proofs.Lines.{says-adds}
+use Rattle.output.proofs.Laws.{says-adds}
 use Rattle.survey.proofs.two_layer_line.Statement.{statement}
 use Rattle.survey.proofs.two_layer_line.Tie as tie
 

@@ -1,4 +1,4 @@
--- `survey::copy` meets its contract: the bytes passed are the line's, the others as they were.
+-- `output::copy` meets its contract: the bytes passed are the line's, the others as they were.
 use Prim.Native.Nat.{ℕ, _-_, _≤_}
 use mathlib.Core.List.{List, _++_}
 use mathlib.Core.Path.{_≡_, ap, _∙_, refl}
@@ -6,10 +6,10 @@ use native.Mathlib.Omega.{arith}
 use lib.ListN.{length, take, drop, getD, set, length-set}
 use denote.Ref.{now}
 use borrow.Author.Needs.{needs}
-use Rattle.survey.specs.Line.{longestLine}
-use Rattle.survey.proofs.Lines.{copied-more}
-use Rattle.survey.proofs.copy.Statement.{statement}
-use Rattle.survey.proofs.copy.Tie as tie
+use Rattle.output.specs.Building.{mostOutput}
+use Rattle.output.proofs.Laws.{copied-more}
+use Rattle.output.proofs.copy.Statement.{statement}
+use Rattle.output.proofs.copy.Tie as tie
 
 abbrev Inv-loop : tie.InvT-loop
 Inv-loop out₀ bytes used i₀ out i = (i ≤ used) × (length out ≡ length out₀) × (out ≡ take i bytes ++ drop i out₀)
@@ -23,20 +23,20 @@ loop-holds c = (omega arith, refl, refl)
 loop-again : tie.Need-loop-again Inv-loop μ-loop
 loop-again c =
     let l = c .before .loop in
-    let line = c .before .before .before .args .line in
-    let size : length (line .bytes) ≡ longestLine = search needs in (
+    let out = c .before .before .before .args .out in
+    let size : length (out .bytes) ≡ mostOutput = search needs in (
       omega arith,
       simp length-set (l .inv .1),
-      ap (λ (k : List ℕ). set k (l .i) (getD (line .bytes) (l .i) 0)) (l .inv .2) ∙ copied-more (line .bytes)
-          (now (c .before .before .before .args .out)) (l .i) (omega arith) (omega arith),
+      ap (λ (k : List ℕ). set k (l .i) (getD (out .bytes) (l .i) 0)) (l .inv .2) ∙ copied-more (out .bytes)
+          (now (c .before .before .before .args .buffer)) (l .i) (omega arith) (omega arith),
     )
 
 returns : tie.Need-returns Inv-loop μ-loop
 returns c =
     let l = c .before .loop in
-    let line = c .before .before .before .args .line in
-    let e : l .i ≡ line .used = omega arith in
-    l .inv .2 ∙ ap (λ (k : ℕ). take k (line .bytes) ++ drop k (now (c .before .before .before .args .out))) e
+    let out = c .before .before .before .args .out in
+    let e : l .i ≡ out .used = omega arith in
+    l .inv .2 ∙ ap (λ (k : ℕ). take k (out .bytes) ++ drop k (now (c .before .before .before .args .buffer))) e
 
 pub copy-spec : {M : Type 1} → statement M
 copy-spec =

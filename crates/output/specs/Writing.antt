@@ -1,0 +1,33 @@
+-- What a call that writes bytes to the front of a lent buffer answers, and what it leaves there.
+--
+--   over bytes before       the buffer with the bytes written to its front; one that is too short is left as it is: "bytes past it are
+--                           untouched", "a refused one alters no lent byte"
+--   refusedWriting r        a refusal; the length is 0
+--   writtenFor bytes size   the answer where the buffer has so many bytes: "19 (place: the length needed), lent buffer too short"; else "an
+--                           accepted call that writes a ticket gives the length written"
+--   Wrote bytes before after r
+--                           the call answers r and leaves the buffer, which was before, as after
+use Prim.Native.Nat.{ℕ}
+use mathlib.Core.Path.{_≡_}
+use mathlib.Core.Bool.{cond}
+use mathlib.Core.List.{List, _++_}
+use lib.Dec.{leb}
+use lib.ListN.{length, drop}
+use Rattle.terms.specs.declared.Refusal.{Refusal}
+use Rattle.terms.specs.Refusals.{refusal, unless}
+use Rattle.output.specs.declared.Written.{Written}
+
+unfoldable pub over : List ℕ → List ℕ → List ℕ
+over bytes before = cond (leb (length bytes) (length before)) (bytes ++ drop (length bytes) before) before
+
+abbrev pub refusedWriting : Refusal → Written
+refusedWriting r = record { refusal = r; length = 0 }
+
+unfoldable pub writtenFor : List ℕ → ℕ → Written
+writtenFor bytes size =
+    unless (leb (length bytes) size) (refusedWriting (refusal 19 (length bytes)))
+    (record { refusal = refusal 0 0; length = length bytes })
+
+pub record Wrote (bytes before after : List ℕ) (r : Written) : Type 0 where
+  pub answer : r ≡ writtenFor bytes (length before)
+  pub buffer : after ≡ over bytes before
