@@ -1,0 +1,10 @@
+pub mod Expansion
+pub mod Parts
+pub mod MapAndNets
+pub mod Sides
+pub mod Header
+pub mod ReadBack
+pub mod ListBack
+pub mod ByteBits
+pub mod SideBack
+pub mod BytesBack
