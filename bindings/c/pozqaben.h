@@ -32,6 +32,8 @@
  *    17       a two-layer channel is solid: every place is filled, every   0
  *             net has one north and one south pin, and some net's are in
  *             different columns, so no width has a legal wiring
+ *    18       a side of the box, n or w, is none of 1 to 90                0
+ *    19       the buffer is shorter than the ticket                        the length needed
  */
 #ifndef POZQABEN_H
 #define POZQABEN_H
@@ -50,7 +52,8 @@ enum {
     POZQABEN_SURVEY_ENTRIES = 11,
     POZQABEN_LAY_ENTRIES = 11,
     POZQABEN_CHECK_ENTRIES = 2,
-    POZQABEN_LAYER_VIEW_ENTRIES = 4
+    POZQABEN_LAYER_VIEW_ENTRIES = 4,
+    POZQABEN_HARDEST_BOX_ENTRIES = 3
 };
 
 /* A ticket's kind. */
@@ -82,6 +85,12 @@ bool pozqaben_check(const uint8_t *ticket, size_t ticket_length, size_t w, size_
 /* number, place, and of the layer's part of the wiring where it starts and its length: 0 and 0 when refused */
 bool pozqaben_layer_view(const uint8_t *wiring, size_t wiring_length, size_t n, size_t w, size_t k, size_t layer,
                          uint64_t *answer, size_t answer_length);
+
+/* number, place, length. Writes a box ticket of n columns and w tracks with every place filled, whose floor no box
+ * ticket of that shape exceeds. A refusal alters no byte of the buffer; bytes past the length are untouched.
+ * POZQABEN_LONGEST_TICKET bytes are enough for every shape. */
+bool pozqaben_hardest_box(size_t n, size_t w, uint8_t *ticket, size_t ticket_length, uint64_t *answer,
+                          size_t answer_length);
 
 #ifdef __cplusplus
 }

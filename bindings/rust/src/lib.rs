@@ -1,4 +1,5 @@
-//! Pozqaben: reads and surveys tickets, lays wirings, checks wirings that anybody drew, and shows a layer of one.
+//! Pozqaben: reads and surveys tickets, lays wirings, checks wirings that anybody drew, shows a layer of one, and writes the
+//! hardest box of a shape.
 //!
 //! A safe wrapper of the calls that the repository proves. A ticket is bytes; a wiring is a buffer that holds point
 //! (i, j, l), counted from 1, at ((l - 1) * w + (j - 1)) * n + i - 1, a net's number or 0.
@@ -209,4 +210,22 @@ pub fn layer_view(wiring: &[u8], n: usize, w: usize, k: usize, layer: usize) -> 
     unsafe { raw::pozqaben_layer_view(wiring.as_ptr(), wiring.len(), n, w, k, layer, answer.as_mut_ptr(), answer.len()) };
     let [_, _, start, length] = accepted(answer)?;
     Ok(&wiring[start..start + length])
+}
+
+/// Writes the ticket of `hardest_box` into the buffer and gives its length. A refusal alters no byte of the buffer, and no other
+/// call a byte past the ticket.
+pub fn hardest_box_into(n: usize, w: usize, ticket: &mut [u8]) -> Result<usize, Refusal> {
+    let mut answer = [0; raw::HARDEST_BOX_ENTRIES];
+    // Sound: as in `lay_into`.
+    unsafe { raw::pozqaben_hardest_box(n, w, ticket.as_mut_ptr(), ticket.len(), answer.as_mut_ptr(), answer.len()) };
+    let [_, _, length] = accepted(answer)?;
+    Ok(length)
+}
+
+/// A box ticket of n columns and w tracks with every place filled, whose floor no box ticket of that shape exceeds.
+pub fn hardest_box(n: usize, w: usize) -> Result<Vec<u8>, Refusal> {
+    let mut ticket = vec![0; LONGEST_TICKET];
+    let length = hardest_box_into(n, w, &mut ticket)?;
+    ticket.truncate(length);
+    Ok(ticket)
 }

@@ -14,6 +14,7 @@ pub const SURVEY_ENTRIES: usize = 11;
 pub const LAY_ENTRIES: usize = 11;
 pub const CHECK_ENTRIES: usize = 2;
 pub const LAYER_VIEW_ENTRIES: usize = 4;
+pub const HARDEST_BOX_ENTRIES: usize = 3;
 
 /// A ticket's kind, as the answers have it.
 pub const ROW: u64 = 1;
@@ -64,4 +65,7 @@ extern "C" {
         answer: *mut u64,
         answer_length: usize,
     ) -> bool;
+
+    /// number, place, length
+    pub fn pozqaben_hardest_box(n: usize, w: usize, ticket: *mut u8, ticket_length: usize, answer: *mut u64, answer_length: usize) -> bool;
 }

@@ -48,6 +48,8 @@ impl Refusal {
             15 => format!("net {place} is not in one piece"),
             16 => format!("the wiring has no layer {place}"),
             17 => "the two-layer channel is solid, so that no width has a legal wiring on two layers".to_string(),
+            18 => format!("a side of the box, n or w, is none of 1 to {LONGEST_SIDE}"),
+            19 => format!("the buffer is shorter than the {place} bytes that the ticket takes"),
             other => format!("no refusal has the number {other}"),
         }
     }

@@ -4,7 +4,7 @@ mod common;
 
 use common::{answered, extremes, ticket, Lent};
 use slow::judge::{judge, Grid};
-use slow::tickets::{corner, every_two_layer, rings, two_layer, Numbers};
+use slow::tickets::{corner, every, rings, two_layer, Numbers};
 use slow::two_layer::is_solid;
 use slow::{no_kind, survey, Refusal, Ticket, BOX, CHANNEL, EAST, LONGEST_SIDE, NORTH, ROW, SOUTH, TWO_LAYER, WEST, WIDEST_GRID};
 
@@ -119,7 +119,7 @@ fn two_layer_tickets() {
 fn two_layer_tickets_of_small_length() {
     let r = &mut Numbers::new(211);
     for n in 1..=4 {
-        every_two_layer(n).iter().for_each(|t| lays_well(r, t));
+        every(TWO_LAYER, n, 1).iter().for_each(|t| lays_well(r, t));
     }
 }
 

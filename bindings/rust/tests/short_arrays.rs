@@ -3,8 +3,10 @@
 mod common;
 
 use common::{Lent, MARK};
+use slow::hardest;
 use slow::tickets::{random, Numbers};
 use slow::wirings::wired;
+use slow::LONGEST_TICKET;
 
 /// A call with arrays that are too short, and one that is just long enough.
 fn only_with_room(entries: usize, mut call: impl FnMut(&mut [u64]) -> bool) {
@@ -47,5 +49,20 @@ fn lay_and_check() {
             assert!(told || scratch.kept_past(0));
             told
         });
+    }
+}
+
+/// Every shape into a buffer that is long enough and into an empty one, and sides that are none.
+#[test]
+fn hardest_box() {
+    for (n, w) in hardest::shapes().chain([(0, 1), (1, usize::MAX)]) {
+        for size in [0, LONGEST_TICKET] {
+            let mut ticket = Lent::new(size, 5);
+            only_with_room(3, |a| {
+                let told = common::hardest_box(n, w, ticket.part(), a);
+                assert!(told || ticket.kept_past(0));
+                told
+            });
+        }
     }
 }

@@ -1,6 +1,7 @@
 //! The safe wrapper's typed answers, and what its refusals say.
 
-use pozqaben::{check, check_with, lay, lay_into, layer_view, read, survey, Kind, Laid, Reading, Refusal, Survey};
+use pozqaben::{check, check_with, hardest_box, hardest_box_into, lay, lay_into, layer_view, read, survey};
+use pozqaben::{Kind, Laid, Reading, Refusal, Survey};
 use slow::tickets::{rings, DOCUMENT};
 use slow::{widest, BOX, CHANNEL, ROW, TWO_LAYER};
 use std::fmt::Debug;
@@ -53,6 +54,17 @@ fn two_layer_solid() {
     say(lay(&solid), text);
     say(lay_into(&solid, &mut []), text);
     say(lay_into(&solid, &mut [0; 1000]), text);
+}
+
+/// North 1, south 2, west 1, east 2.
+#[test]
+fn smallest_hardest_box() {
+    let t = [3, 1, 1, 15, 1, 1, 1, 2, 1, 1, 1, 2];
+    assert_eq!(hardest_box(1, 1), Ok(t.to_vec()));
+    let mut buffer = [9; 14];
+    assert_eq!(hardest_box_into(1, 1, &mut buffer), Ok(t.len()));
+    assert_eq!(buffer[..], [&t[..], &[9, 9]].concat());
+    assert_eq!(survey(&t).unwrap().to_string(), "box length 1 width 1 nets 2 pins 4 across 2 up 2 layers 6 floor 4");
 }
 
 #[test]
@@ -108,4 +120,11 @@ fn refused_buffers_and_wirings() {
     say(check(&row, 1, 2, false, &[1, 1, 1, 2]), "refused 14 at 3: the point at byte 3 of the wiring holds no net of the ticket");
     say(check(&row, 1, 2, false, &[1, 1, 0, 0]), "refused 15 at 1: net 1 is not in one piece");
     say(layer_view(&[0; 4], 2, 1, 2, 3), "refused 16 at 3: the wiring has no layer 3");
+}
+
+#[test]
+fn refused_hardest_boxes() {
+    say(hardest_box(0, 12), "refused 18 at 0: a side of the box, n or w, is none of 1 to 90");
+    say(hardest_box(40, 91), "refused 18 at 0: a side of the box, n or w, is none of 1 to 90");
+    say(hardest_box_into(40, 12, &mut [0; 121]), "refused 19 at 122: the buffer is shorter than the 122 bytes that the ticket takes");
 }

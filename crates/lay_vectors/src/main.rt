@@ -1,6 +1,7 @@
 // Lays stored tickets: after its ticket a record has the length of the buffer, of three bytes. A line is Lay's answer, then Check's number
 // and place of the wiring, and 1 where the bytes outside it were kept.
 use libc::STDIN_FILENO;
+use records::STAIN;
 use records::field;
 use records::refusal_fields;
 use router::LayAnswer;
@@ -14,17 +15,8 @@ const FIELDS: usize = 3;
 
 const LONGEST_BUFFER: usize = 65536;
 
-// What the buffer holds before a ticket is laid.
-const STAIN: u8 = 170;
-
 fn flag(x: bool) -> usize {
     if x { 1 } else { 0 }
-}
-
-fn stain(buffer: &mut [u8]) {
-    for i in 0..buffer.len() {
-        buffer[i] = STAIN;
-    }
 }
 
 // Whether no byte from `from` on was written.
@@ -81,7 +73,7 @@ fn verdict(ticket: &[u8], a: LayAnswer, wiring: &[u8], size: usize, scratch: &mu
 }
 
 fn show(ticket: &[u8], wiring: &mut [u8], scratch: &mut [u8]) {
-    stain(wiring);
+    records::stain(wiring);
     let a = router::lay(ticket, wiring);
     let size = taken(a, wiring.len());
     show_answer(a);

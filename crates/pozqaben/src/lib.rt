@@ -3,6 +3,7 @@
 use grid::Column;
 use grid::Layer;
 use grid::Track;
+use output::Written;
 use router::LayAnswer;
 use survey::SurveyAnswer;
 use terms::Refusal;
@@ -16,8 +17,9 @@ ghost use Rattle.view.specs.View.{viewPart};
 ghost use Rattle.ticket.specs.Read.{ticketOf, readOf};
 ghost use Rattle.survey.specs.Survey.{surveyOf};
 ghost use Rattle.router.specs.Lay.{layOf, Lays};
-ghost use Rattle.pozqaben.specs.Answers.{bit, readEntries, surveyEntries, layEntries, checkEntries, viewEntries, partTold};
-ghost use Rattle.pozqaben.specs.Answers.{Answered, Tells};
+ghost use Rattle.hardest_law.specs.Hardest.{hardestAnswer, WritesHardest};
+ghost use Rattle.pozqaben.specs.Answers.{bit, readEntries, surveyEntries, layEntries, checkEntries, viewEntries, writtenEntries};
+ghost use Rattle.pozqaben.specs.Answers.{partTold, Answered, Tells};
 
 // How many entries each call writes.
 const READ_ENTRIES: usize = 6;
@@ -29,6 +31,9 @@ const LAY_ENTRIES: usize = 11;
 const CHECK_ENTRIES: usize = 2;
 
 const LAYER_VIEW_ENTRIES: usize = 4;
+
+// Of every call that writes a ticket.
+const WRITTEN_ENTRIES: usize = 3;
 
 // Stores the entries at the array's start.
 fn put(answer: &mut [u64], entries: &[u64])
@@ -208,6 +213,38 @@ pub extern "C" fn pozqaben_layer_view(
         return false;
     }
     let entries = view_entries(wiring, Column(n), Track(w), Layer(k), Layer(layer));
+    put(answer, &entries);
+    true
+}
+
+fn written_entries(a: Written) -> [u64; WRITTEN_ENTRIES]
+    ensures { λ r. ⌜ r ≡ writtenEntries a ⌝ }
+{
+    [
+        a.refusal.number as u64,
+        a.refusal.place as u64,
+        a.length as u64,
+    ]
+}
+
+// The hardest box of a shape: number, place, length.
+#[no_mangle]
+pub extern "C" fn pozqaben_hardest_box(
+    n: usize,
+    w: usize,
+    ticket: &mut [u8],
+    answer: &mut [u64],
+) -> bool
+    ensures answer { λ r. ⌜ Answered (writtenEntries (hardestAnswer n w (length (now (ticket .entry))))) (now (answer .entry))
+        r (now (answer .exit)) ⌝ }
+    ensures short { λ r. ⌜ (r ≡ false → now (ticket .exit) ≡ now (ticket .entry)) ⌝ }
+    ensures writes { λ r. ⌜ (r ≡ true → WritesHardest n w (now (ticket .entry)) (now (ticket .exit))
+        (hardestAnswer n w (length (now (ticket .entry))))) ⌝ }
+{
+    if answer.len() < WRITTEN_ENTRIES {
+        return false;
+    }
+    let entries = written_entries(hardest::hardest_box(Column(n), Track(w), ticket));
     put(answer, &entries);
     true
 }

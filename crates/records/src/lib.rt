@@ -4,9 +4,9 @@ use terms::BYTE_VALUES;
 use terms::Refusal;
 use terms::entry_of;
 use terms::wide;
-ghost use Prim.Native.Nat.{_+_, _^_, _≤_, _<_};
+ghost use Prim.Native.Nat.{ℕ, _+_, _^_, _≤_, _<_};
 ghost use mathlib.Core.Path.{_≡_};
-ghost use lib.ListN.{length};
+ghost use lib.ListN.{length, getD};
 ghost use Rattle.terms.specs.Limits.{byteValues};
 ghost use Rattle.records.specs.Records.{numberAt, Cut};
 
@@ -30,6 +30,27 @@ pub fn triple(s: &[u8], at: usize) -> usize
     ensures { λ r. ⌜ (r ≡ numberAt (now (s .entry)) at 3) × (r < byteValues ^ 3) ⌝ }
 {
     entry_of(s[at]) + BYTE_VALUES * pair(s, at + 1)
+}
+
+// The numbers of two bytes and of four.
+const TWO_BYTES: usize = BYTE_VALUES * BYTE_VALUES;
+
+const FOUR_BYTES: usize = TWO_BYTES * TWO_BYTES;
+
+// The number of four bytes at `at`.
+fn four(s: &[u8], at: usize) -> usize
+    requires { ⌜ at + 4 ≤ length (now s) ⌝ }
+    ensures { λ r. ⌜ (r ≡ numberAt (now (s .entry)) at 4) × (r < byteValues ^ 4) ⌝ }
+{
+    pair(s, at) + TWO_BYTES * pair(s, at + 2)
+}
+
+// The number of eight bytes at `at`. (For our own crates.)
+pub fn eight(s: &[u8], at: usize) -> usize
+    requires { ⌜ at + 8 ≤ length (now s) ⌝ }
+    ensures { λ r. ⌜ r ≡ numberAt (now (s .entry)) at 8 ⌝ }
+{
+    four(s, at) + FOUR_BYTES * four(s, at + 4)
 }
 
 // The record that starts at `at` and has `more` bytes after its ticket; where it is not whole, an empty one that ends at `at`.
@@ -69,4 +90,15 @@ pub fn last_field(x: usize) {
 pub fn refusal_fields(r: Refusal) {
     field(wide(r.number));
     field(r.place);
+}
+
+// What a buffer holds before a call writes it.
+pub const STAIN: u8 = 170;
+
+pub fn stain(buffer: &mut [u8])
+    ensures { λ _. ⌜ ((i : ℕ) → i < length (now (buffer .entry)) → getD (now (buffer .exit)) i 0 ≡ 170) ⌝ }
+{
+    for i in 0..buffer.len() {
+        buffer[i] = STAIN;
+    }
 }

@@ -1,8 +1,9 @@
 //! A slow, independent reading of the scope document and of the requests: it reads and surveys tickets, judges wirings and
-//! lays them.
+//! lays them, and writes the hardest box of a shape.
 //!
 //! Written from the documents alone; it shares no code with the crates. Refusals are a number and a place.
 
+pub mod hardest;
 pub mod judge;
 pub mod lay;
 pub mod maze;

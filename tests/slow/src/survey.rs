@@ -46,11 +46,16 @@ fn trunk_figures(t: &Ticket, layers: usize) -> Figures {
     Figures { w: across.div_ceil(t.byte2).max(1), nets: t.nets().len(), pins: t.pins.len(), across, up: 0, layers, floor: 0 }
 }
 
+/// The longer side over the shorter, rounded up.
+pub fn quotient(n: usize, w: usize) -> usize {
+    n.max(w).div_ceil(n.min(w))
+}
+
 fn box_figures(t: &Ticket) -> Figures {
     let (n, w, across, up) = (t.n, t.byte2, across(t), up(t));
     let (a, b) = (across.div_ceil(w) as i64, up.div_ceil(n) as i64);
     let floor = [1, 2 * a - 1, 2 * b - 1, a + b].into_iter().max().unwrap() as usize;
-    Figures { w, nets: t.nets().len(), pins: t.pins.len(), across, up, layers: 2 * n.max(w).div_ceil(n.min(w)) + 4, floor }
+    Figures { w, nets: t.nets().len(), pins: t.pins.len(), across, up, layers: 2 * quotient(n, w) + 4, floor }
 }
 
 pub fn figures(t: &Ticket) -> Figures {

@@ -211,17 +211,18 @@ pub fn rings(n: usize) -> Vec<u8> {
     two_layer_of(&north, &south)
 }
 
-/// Every two-layer channel of length n, up to the nets' numbers: each place takes a net that an earlier place has, or the next
-/// one, and is empty where no other has the same.
-pub fn every_two_layer(n: usize) -> Vec<Vec<u8>> {
+/// Every ticket of this shape, up to the nets' numbers: each place is empty, or takes a net that an earlier place has, or the
+/// next one, and no net has one pin.
+pub fn every(kind: u8, n: usize, byte2: usize) -> Vec<Vec<u8>> {
+    let slots = slots(kind, n, byte2);
     let mut lists: Vec<Vec<u8>> = vec![vec![]];
-    for _ in 0..2 * n {
+    for _ in &slots {
         let next = |x: &[u8]| x.iter().max().map_or(1, |m| m + 1);
-        lists = lists.iter().flat_map(|x| (1..=next(x)).map(|m| [&x[..], &[m]].concat())).collect();
+        lists = lists.iter().flat_map(|x| (0..=next(x)).map(|m| [&x[..], &[m]].concat())).collect();
     }
-    let paired = |x: &[u8], m: u8| if x.iter().filter(|a| **a == m).count() > 1 { m } else { 0 };
-    let filled = |x: Vec<u8>| -> Vec<u8> { x.iter().map(|m| paired(&x, *m)).collect() };
-    lists.into_iter().map(filled).map(|x| two_layer_of(&x[..n], &x[n..])).collect()
+    lists.retain(|x| x.iter().all(|m| *m == 0 || x.iter().filter(|a| *a == m).count() > 1));
+    let pins = |x: Vec<u8>| -> Places { slots.iter().copied().zip(x).filter(|(_, m)| *m != 0).collect() };
+    lists.into_iter().map(|x| encode(kind, n, byte2, &pins(x))).collect()
 }
 
 /// A box all of whose nets are on just the sides a and b.

@@ -5,10 +5,10 @@ use slow::read::read;
 use slow::search::narrowest;
 use slow::tickets::{self, Numbers};
 use slow::two_layer::{is_solid, lay};
-use slow::{Ticket, LONGEST_SIDE, WIDEST_GRID};
+use slow::{Ticket, LONGEST_SIDE, TWO_LAYER, WIDEST_GRID};
 
 fn every_ticket(n: usize) -> Vec<Ticket> {
-    tickets::every_two_layer(n).iter().map(|t| read(t).expect("a good ticket")).collect()
+    tickets::every(TWO_LAYER, n, 1).iter().map(|t| read(t).expect("a good ticket")).collect()
 }
 
 /// Whether one of all wirings on two layers with w tracks is legal.

@@ -1,14 +1,15 @@
 //! Ratios of one run, never a timed test: `cargo run --release --example bench` prints the tables of docs/BENCHMARKS.md.
 //!
 //! Lay is held against plain code for the same construction and, as the limit to look at, against memset of the bytes that it
-//! writes; of two-layer channels against Lay of a channel; Check against a plain flood fill of the same wiring.
+//! writes; of two-layer channels against Lay of a channel; Check against a plain flood fill of the same wiring; a ticket that is
+//! written against reading it.
 
 mod flood;
 mod plain;
 mod wirings;
 
 use flood::Flood;
-use pozqaben::{check_with, lay_into, read, survey};
+use pozqaben::{check_with, hardest_box_into, lay_into, read, survey, LONGEST_TICKET};
 use slow::tickets::{a_net_less, a_pin_less, encode, of_shape, rings, slots, Numbers, Places};
 use slow::{BOX, CHANNEL, LONGEST_SIDE, MOST_LAYERS, ROW, TWO_LAYER};
 use std::cell::{Cell, RefCell, RefMut};
@@ -191,6 +192,24 @@ fn call_table(r: &mut Numbers) {
     }
 }
 
+/// The hardest box of a shape is written, and read.
+fn written_table() {
+    println!("\n| hardest box | bytes | written, µs | read, µs | written / read |\n|---|---|---|---|---|");
+    for (n, w) in [(4, 1), (10, 10), (40, 12), (LONGEST_SIDE, LONGEST_SIDE)] {
+        let mut buffer = [0; LONGEST_TICKET];
+        let length = hardest_box_into(n, w, &mut buffer).expect("a shape");
+        let ticket = buffer[..length].to_vec();
+        let writing = &mut || {
+            black_box(hardest_box_into(black_box(n), w, black_box(&mut buffer))).expect("a shape");
+        };
+        let reading = &mut || {
+            black_box(read(black_box(&ticket))).expect("a good ticket");
+        };
+        let [writing, reading] = seconds_of([writing, reading]);
+        println!("| {n} × {w} | {length} | {:.2} | {:.2} | {:.2} |", writing * 1e6, reading * 1e6, writing / reading);
+    }
+}
+
 fn main() {
     let r = &mut Numbers::new(601);
     println!("{} cores\n", std::thread::available_parallelism().map_or(1, |c| c.get()));
@@ -198,4 +217,5 @@ fn main() {
     two_layer_table(r);
     check_table(r);
     call_table(r);
+    written_table();
 }

@@ -26,6 +26,10 @@ pub fn layer_view(wiring: &[u8], n: usize, w: usize, k: usize, layer: usize, ans
     unsafe { raw::pozqaben_layer_view(wiring.as_ptr(), wiring.len(), n, w, k, layer, answer.as_mut_ptr(), answer.len()) }
 }
 
+pub fn hardest_box(n: usize, w: usize, ticket: &mut [u8], answer: &mut [u64]) -> bool {
+    unsafe { raw::pozqaben_hardest_box(n, w, ticket.as_mut_ptr(), ticket.len(), answer.as_mut_ptr(), answer.len()) }
+}
+
 /// No entry of an answer is so large.
 pub const MARK: u64 = 0xa5a5_a5a5_a5a5_a5a5;
 

@@ -5,8 +5,8 @@
 use slow::judge::{self, Grid};
 use slow::tickets::{self, damaged, encode, of_shape, Numbers, Places, DOCUMENT};
 use slow::wirings::{case, layered, spoiled, wired, Case};
-use slow::{lay, no_kind, read, survey, two_layer, Refusal, Ticket, BOX, CHANNEL, EAST, NORTH, ROW, SOUTH, TWO_LAYER, WEST};
-use slow::{LARGEST_NET, LONGEST_SIDE, MOST_LAYERS, MOST_TRUNK_LAYERS, WIDEST_CHANNEL, WIDEST_GRID};
+use slow::{hardest, lay, no_kind, read, survey, two_layer, Refusal, Ticket, BOX, CHANNEL, EAST, NORTH, ROW, SOUTH, TWO_LAYER, WEST};
+use slow::{LARGEST_NET, LONGEST_SIDE, LONGEST_TICKET, MOST_LAYERS, MOST_TRUNK_LAYERS, WIDEST_CHANNEL, WIDEST_GRID};
 use std::path::Path;
 
 fn record(t: &[u8]) -> Vec<u8> {
@@ -343,16 +343,83 @@ fn lay_row((t, length): &(Vec<u8>, usize)) -> String {
     }
 }
 
+/// The buffer that hardest_vectors has for a record; it lends the first bytes of it.
+const RECORD_BUFFER: usize = 512;
+
+/// What its buffers hold before a call.
+const STAIN: u8 = 170;
+
+/// The hash that it makes of a buffer's bytes, going on from that of the buffers before.
+fn hash(before: u64, bytes: &[u8]) -> u64 {
+    bytes.iter().fold(before, |h, b| (h * 31 + *b as u64 + 1) % 1_000_003)
+}
+
+/// The lines that it prints before it reads: for each length, the sum of the tickets' lengths over every width, and the hash of
+/// the buffers.
+fn every_hardest() -> String {
+    let of_length = |n: usize| {
+        let (mut total, mut h) = (0, 0);
+        for w in 1..=LONGEST_SIDE {
+            let mut buffer = [STAIN; LONGEST_TICKET];
+            total += hardest::answer(n, w, &mut buffer)[2];
+            h = hash(h, &buffer);
+        }
+        row(&[n as u64, total, h])
+    };
+    (1..=LONGEST_SIDE).map(of_length).collect()
+}
+
+/// A shape, or sides that are none, and the length of the buffer.
+fn hardest_cases() -> Vec<(usize, usize, usize)> {
+    let r = &mut Numbers::new(41);
+    let side = LONGEST_SIDE;
+    let mut shapes = vec![(1, 1), (1, 2), (2, 1), (2, 2), (3, 2), (7, 8), (8, 8), (8, 9), (9, 8), (16, 17), (40, 12), (12, 40)];
+    shapes.extend([(1, side), (side, 1), (side - 1, side), (side, side)]);
+    shapes.extend((0..40).map(|_| (1 + r.below(side), 1 + r.below(side))));
+    let mut out = Vec::new();
+    for (n, w) in shapes {
+        let length = hardest::ticket(n, w).len();
+        out.extend([length, length - 1, 0, length + 1, RECORD_BUFFER, r.below(length)].map(|size| (n, w, size)));
+    }
+    // Three sides, and numbers that are none; the low bytes of some are a side's.
+    let odd = [1, 12, side, 0, side + 1, 255, 256, 256 + 12, 1 << 16, (1 << 16) + 12, 1 << 32, (1 << 32) + 12, 1 << 63, usize::MAX];
+    for n in odd {
+        for w in odd {
+            out.extend([0, LONGEST_TICKET, RECORD_BUFFER].map(|size| (n, w, size)));
+        }
+    }
+    for _ in 0..400 {
+        out.push((r.below(side + 3), r.below(side + 3), r.below(RECORD_BUFFER + 1)));
+    }
+    out
+}
+
+fn hardest_record((n, w, size): &(usize, usize, usize)) -> Vec<u8> {
+    let mut out = (*n as u64).to_le_bytes().to_vec();
+    out.extend((*w as u64).to_le_bytes());
+    out.extend((*size as u16).to_le_bytes());
+    out
+}
+
+/// number, place, length; then the hash of the whole buffer.
+fn hardest_row((n, w, size): &(usize, usize, usize)) -> String {
+    let mut buffer = [STAIN; RECORD_BUFFER];
+    let [number, place, length] = hardest::answer(*n, *w, &mut buffer[..*size]);
+    row(&[number, place, length, hash(0, &buffer)])
+}
+
 /// What each program reads and must print.
 fn vectors() -> Vec<(&'static str, Vec<u8>, String)> {
-    let (reads, surveys, checks, lays) = (read_tickets(), survey_tickets(), check_cases(), lay_cases());
+    let (reads, surveys, checks, lays, boxes) = (read_tickets(), survey_tickets(), check_cases(), lay_cases(), hardest_cases());
     let records = |list: &[Vec<u8>]| list.iter().flat_map(|t| record(t)).collect();
     let verdict = |c: &Case| row(&judge::answer(&c.ticket, c.w, c.k, c.first, &c.wiring, c.scratch));
+    let hardest_rows: String = boxes.iter().map(hardest_row).collect();
     vec![
         ("read_vectors", records(&reads), reads.iter().map(|t| row(&read::answer(t))).collect()),
         ("survey_vectors", records(&surveys), surveys.iter().map(|t| survey::line(t)).collect()),
         ("check_vectors", checks.iter().flat_map(check_record).collect(), checks.iter().map(verdict).collect()),
         ("lay_vectors", lays.iter().flat_map(lay_record).collect(), lays.iter().map(lay_row).collect()),
+        ("hardest_vectors", boxes.iter().flat_map(hardest_record).collect(), every_hardest() + &hardest_rows),
     ]
 }
 
