@@ -69,7 +69,7 @@ fn opposite(base: usize, places: usize) -> [u8; LONGEST_SIDE]
 }
 
 // The box, its first south net and its first west net exchanged.
-fn box_of(n: Column, w: Track) -> Problem
+fn make_box(n: Column, w: Track) -> Problem
     requires { ⌜ In (n .0) longestSide × In (w .0) longestSide ⌝ }
     ensures { λ r. ⌜ r ≡ hardestBox (n .0) (w .0) ⌝ }
 {
@@ -103,5 +103,5 @@ pub fn hardest_box(n: Column, w: Track, ticket: &mut [u8]) -> Written
     if !is_shape(n, w) {
         return not_written(refuse(18, 0));
     }
-    ticket_writer::write_ticket(box_of(n, w), ticket)
+    ticket_writer::write_ticket(make_box(n, w), ticket)
 }

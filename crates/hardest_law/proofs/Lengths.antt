@@ -14,7 +14,7 @@ use Rattle.terms.specs.Limits.{longestSide}
 use Rattle.terms.specs.Kinds.{north, south, west, east}
 use Rattle.problem.specs.Problem.{pinsIn}
 use Rattle.ticket_sides.specs.Format.{mapBytes}
-use Rattle.ticket_bytes.specs.Bytes.{isFilled, hasPins, sideBytes, sideMap, sideOf, bytesOf}
+use Rattle.ticket_bytes.specs.Bytes.{isFilled, hasPins, sideBytes, sideMap, bytesOn, bytesOf}
 use Rattle.ticket_bytes.proofs.MapAndNets.{side-length}
 use Rattle.hardest_law.specs.Box.{hardestBox}
 use Rattle.hardest_law.specs.Hardest.{fullLength}
@@ -34,10 +34,10 @@ full-length n w long broad =
     let head : List ℕ = q .kind ∷ q .n .0 ∷ q .byte2 ∷ sideMap q ∷ [] in
     omega (
       arith,
-      length-append (head ++ sideOf q north ++ sideOf q south ++ sideOf q west) (sideOf q east),
-      length-append (head ++ sideOf q north ++ sideOf q south) (sideOf q west),
-      length-append (head ++ sideOf q north) (sideOf q south),
-      length-append head (sideOf q north),
+      length-append (head ++ bytesOn q north ++ bytesOn q south ++ bytesOn q west) (bytesOn q east),
+      length-append (head ++ bytesOn q north ++ bytesOn q south) (bytesOn q west),
+      length-append (head ++ bytesOn q north) (bytesOn q south),
+      length-append head (bytesOn q north),
       full-side (pinsIn (q .pins) north) n (long .0) (hardest-full n w long broad north),
       full-side (pinsIn (q .pins) south) n (long .0) (hardest-full n w long broad south),
       full-side (pinsIn (q .pins) west) w (broad .0) (hardest-full n w long broad west),

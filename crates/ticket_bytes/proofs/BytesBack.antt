@@ -20,7 +20,7 @@ use Rattle.ticket.specs.Read.{ticketOf, problemOf, problemAt}
 use Rattle.ticket.proofs.Extents.{side-before, sides-extents}
 use Rattle.ticket.proofs.Good.{Read, passed}
 use Rattle.ticket.proofs.Sited.{found, fits}
-use Rattle.ticket_bytes.specs.Bytes.{Bytes, sideMap, sideOf, bytesOf}
+use Rattle.ticket_bytes.specs.Bytes.{Bytes, sideMap, bytesOn, bytesOf}
 use Rattle.ticket_bytes.proofs.ByteBits.{all-bits}
 use Rattle.ticket_bytes.proofs.ListBack.{values-drop}
 use Rattle.ticket_bytes.proofs.SideBack.{Back, side-back}
@@ -92,7 +92,7 @@ problem-back : (s : List ℕ) → Read s → Sides s → bytesOf (problem s) ≡
 unfolding bytesOf valuesFrom
 problem-back s r q =
     let p = problem s in
-    regrouped (byte s 0 ∷ byte s 1 ∷ byte s 2 ∷ sideMap p ∷ []) (sideOf p north) (sideOf p south) (sideOf p west) (sideOf p east)
+    regrouped (byte s 0 ∷ byte s 1 ∷ byte s 2 ∷ sideMap p ∷ []) (bytesOn p north) (bytesOn p south) (bytesOn p west) (bytesOn p east)
     ∙ rw (← drop-of-length-le s (r .end), q .fourth .bytes, q .third .bytes, q .second .bytes, q .first .bytes, map-back s r q)
     (values-drop s (byte s) 0 0 4 (r .head .size) (λ x lt. refl))
 

@@ -17,7 +17,7 @@ use Rattle.ticket.specs.declared.Reading.{Reading}
 use Rattle.ticket.specs.Read.{pinsAt, leftOver, noLone, judged, ticketOf, acceptedReading}
 use Rattle.ticket.proofs.Laws.{going-on}
 use Rattle.ticket.proofs.Longest.{longest}
-use Rattle.ticket_bytes.specs.Bytes.{sideMap, sideOf, bytesOf, Sized}
+use Rattle.ticket_bytes.specs.Bytes.{sideMap, bytesOn, bytesOf, Sized}
 use Rattle.ticket_bytes.proofs.Parts.{Part, whole, front, back}
 use Rattle.ticket_bytes.proofs.Sides.{side-read}
 use Rattle.ticket_bytes.proofs.Header.{map-bits, width, fields-read}
@@ -55,7 +55,7 @@ record States (s : List ℕ) (q : Problem) : Type 0 where
   columns : byte s 1 ≡ q .n .0
   second : byte s 2 ≡ q .byte2
   map : byte s 3 ≡ sideMap q
-  sides : Consecutive s (sideOf q north) (sideOf q south) (sideOf q west) (sideOf q east)
+  sides : Consecutive s (bytesOn q north) (bytesOn q south) (bytesOn q west) (bytesOn q east)
 
 bytes-state : (q : Problem) → States (bytesOf q) q
 unfolding bytesOf
@@ -65,16 +65,16 @@ bytes-state q = record { kind = refl; columns = refl; second = refl; map = refl;
 
 -- the byte behind each side
 abbrev northStop : Problem → ℕ
-northStop q = 4 + length (sideOf q north)
+northStop q = 4 + length (bytesOn q north)
 
 abbrev southStop : Problem → ℕ
-southStop q = northStop q + length (sideOf q south)
+southStop q = northStop q + length (bytesOn q south)
 
 abbrev westStop : Problem → ℕ
-westStop q = southStop q + length (sideOf q west)
+westStop q = southStop q + length (bytesOn q west)
 
 abbrev eastStop : Problem → ℕ
-eastStop q = westStop q + length (sideOf q east)
+eastStop q = westStop q + length (bytesOn q east)
 
 module _ (s : List ℕ) (q : Problem) (good : Good q) (sized : Sized q) (states : States s q) where
   header : headerOf s ≡ goOn 4

@@ -1,13 +1,14 @@
 -- The bytes of a problem: the ticket that states it. Read is its inverse: proofs/ReadBack.antt, proofs/BytesBack.antt.
 --
 --   isFilled f a       place a of a side whose nets are f holds a pin
---   hasPins f p        one of the side's places 1 to p does: the side stands
+--   hasPins f p        one of the side's places 1 to p does
+--   sideStands q s     the same of side s of a problem: "For each standing side"
 --   sideMap q          "Byte 3, side map: bit 0 north, 1 south, 2 west, 3 east; bits 4 to 7 zero", a bit for each side that has a pin
 --   mapByte f p j      byte j of the side's position map: "Place i is bit (i - 1) mod 8 of byte (i - 1) div 8. Spare bits are zero"
 --   netsTo f p         "one net number .. for each standing bit, in rising order of place"
 --   sideBytes f p      a side's bytes: "For each standing side .. its position map: p places .. in p/8 bytes, rounded up"; "Then comes one
 --                      net number .. for each standing bit"
---   sideOf q s         the bytes of side s of a problem
+--   bytesOn q s        the bytes of side s of a problem
 --   bytesOf q          the ticket: bytes 0 to 3, then the sides "in that order"
 --   Bytes s            each number of the list is a byte
 --   Sized q            the lists of pins have an entry for each place of the longest side
@@ -47,11 +48,11 @@ sideStands q s = hasPins (pinsIn (q .pins) s) (places (shapeOf q) s)
 unfoldable pub sideMap : Problem → ℕ
 sideMap q = bit (sideStands q north) + 2 * bit (sideStands q south) + 4 * bit (sideStands q west) + 8 * bit (sideStands q east)
 
-abbrev pub sideOf : Problem → Side → List ℕ
-sideOf q s = sideBytes (pinsIn (q .pins) s) (places (shapeOf q) s)
+abbrev pub bytesOn : Problem → Side → List ℕ
+bytesOn q s = sideBytes (pinsIn (q .pins) s) (places (shapeOf q) s)
 
 unfoldable pub bytesOf : Problem → List ℕ
-bytesOf q = (q .kind ∷ q .n .0 ∷ q .byte2 ∷ sideMap q ∷ []) ++ sideOf q north ++ sideOf q south ++ sideOf q west ++ sideOf q east
+bytesOf q = (q .kind ∷ q .n .0 ∷ q .byte2 ∷ sideMap q ∷ []) ++ bytesOn q north ++ bytesOn q south ++ bytesOn q west ++ bytesOn q east
 
 pub record Bytes (s : List ℕ) : Type 0 where
   pub small : (i : ℕ) → byte s i < byteValues

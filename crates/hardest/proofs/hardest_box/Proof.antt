@@ -22,22 +22,22 @@ returns c =
     (shape-refused (a .n .0) (a .w .0) (now (a .ticket))
     (failed (c .before .before .before .is-shape .ensures) (c .before .before .if1 .taken)))
 
-box-of-requires : tie.Need-box-of-requires
-box-of-requires c κs = shape-in _ _ (passed (c .before .is-shape .ensures) (c .if1 .left))
+make-box-requires : tie.Need-make-box-requires
+make-box-requires c κs = shape-in _ _ (passed (c .before .is-shape .ensures) (c .if1 .left))
 
 write-ticket-requires : tie.Need-write-ticket-requires
 write-ticket-requires c κs =
     let shape = shape-in _ _ (passed (c .before .before .before .is-shape .ensures) (c .before .before .if1 .left)) in
-    subst Good (sym (c .before .box-of .ensures)) (hardest-good _ _ (shape .0) (shape .1))
+    subst Good (sym (c .before .make-box .ensures)) (hardest-good _ _ (shape .0) (shape .1))
 
 returns-2 : tie.Need-returns-2
 returns-2 c =
     let c4 = c .before .before .before .before in
     let a = c4 .before .before .before .before .args in
     box-written (a .n .0) (a .w .0) (now (a .ticket)) (passed (c4 .before .before .is-shape .ensures) (c4 .before .if1 .left))
-    (wrote-as (ap bytesOf (c4 .box-of .ensures)) (c .before .before .write-ticket .ensures))
+    (wrote-as (ap bytesOf (c4 .make-box .ensures)) (c .before .before .write-ticket .ensures))
 
 pub hardest-box-spec : {M : Type 1} → statement M
 hardest-box-spec =
-    tie.close (tie.spec (λ c κs. search needs) (λ c κs. search needs) (λ c κs. search needs) returns box-of-requires write-ticket-requires
+    tie.close (tie.spec (λ c κs. search needs) (λ c κs. search needs) (λ c κs. search needs) returns make-box-requires write-ticket-requires
     (λ c. search needs) returns-2)

@@ -1,8 +1,8 @@
--- `hardest::box_of` meets its contract: the lists are those of the definition, by the sizes of the shape.
+-- `hardest::make_box` meets its contract: the lists are those of the definition, by the sizes of the shape.
 use borrow.Author.Needs.{needs}
 use Rattle.hardest.proofs.Lists.{box-made}
-use Rattle.hardest.proofs.box_of.Statement.{statement}
-use Rattle.hardest.proofs.box_of.Tie as tie
+use Rattle.hardest.proofs.make_box.Statement.{statement}
+use Rattle.hardest.proofs.make_box.Tie as tie
 
 returns : tie.Need-returns
 returns c =
@@ -17,8 +17,8 @@ returns c =
       easts = c .opposite2 .ensures;
     })
 
-pub box-of-spec : {M : Type 1} → statement M
-box-of-spec =
+pub make-box-spec : {M : Type 1} → statement M
+make-box-spec =
     tie.close (tie.spec (λ c κs. search needs) (λ c κs. search needs) (λ c κs. search needs) (λ c κs. search needs) (λ c κs. search needs)
     (λ c κs. search needs) (λ c. search needs) (λ c. search needs) (λ c. search needs) (λ c. search needs) (λ c. search needs)
     (λ c. search needs) (λ c. search needs) returns)
