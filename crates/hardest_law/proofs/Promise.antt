@@ -26,7 +26,7 @@ use Rattle.ticket.specs.Read.{acceptedReading, ticketOf, problemOf}
 use Rattle.ticket.proofs.Good.{read-good}
 use Rattle.survey.specs.Survey.{surveyed, surveyOf}
 use Rattle.output.specs.declared.Written.{Written}
-use Rattle.output.specs.Writing.{over, refusedWriting, writtenFor, Wrote}
+use Rattle.output.specs.Writing.{writtenOver, refusedWriting, writtenFor, Wrote}
 use Rattle.ticket_bytes.specs.Bytes.{bytesOf}
 use Rattle.ticket_bytes.proofs.ReadBack.{read-back}
 use Rattle.hardest_law.specs.Box.{hardestBox}
@@ -95,7 +95,7 @@ module _ (n w : ℕ) (long : In n longestSide) (broad : In w longestSide) where
               columns = ap (λ (x : Problem). x .n .0) q;
               tracks = ap (λ (x : Problem). x .byte2) q;
             };
-        filled = subst (λ (x : Problem). (side : Side) (a : ℕ) → In a (places (shapeOf x) side) → pinsIn (x .pins) side a ≢ 0) (sym q)
+        everywhere = subst (λ (x : Problem). (side : Side) (a : ℕ) → In a (places (shapeOf x) side) → pinsIn (x .pins) side a ≢ 0) (sym q)
             (hardest-full n w long broad);
       }
 
@@ -173,7 +173,7 @@ module _ (n w : ℕ) (before : List ℕ) where
         }
 
     pub box-written : {after : List ℕ} {r : Written} → Wrote (ticket n w) before after r → WritesHardest n w before after r
-    unfolding over writtenFor
+    unfolding writtenOver writtenFor
     box-written {after} {r} wrote =
         split (leb (length (ticket n w)) (length before))
         (λ e. kept (wrote .buffer ∙ rw e) (wrote .answer ∙ rw e) (written e))

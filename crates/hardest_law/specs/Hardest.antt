@@ -47,7 +47,7 @@ pub record BoxOf (n w : ℕ) (s : List ℕ) : Type 0 where
 
 pub record FullBox (n w : ℕ) (s : List ℕ) : Type 0 where
   pub shape : BoxOf n w s
-  pub filled : (side : Side) (a : ℕ) → In a (places (shapeOf (problemOf s)) side) → ticketPins s side a ≢ 0
+  pub everywhere : (side : Side) (a : ℕ) → In a (places (shapeOf (problemOf s)) side) → ticketPins s side a ≢ 0
 
 abbrev pub surveyFloor : List ℕ → ℕ
 surveyFloor s = surveyOf s .floor .0

@@ -10,7 +10,7 @@ use borrow.Author.Tests.{lt-leb, le-leb}
 use Rattle.terms.specs.Refusals.{refusal}
 use Rattle.output.specs.declared.Output.{Output}
 use Rattle.output.specs.declared.Written.{Written}
-use Rattle.output.specs.Writing.{over, refusedWriting, writtenFor, Wrote}
+use Rattle.output.specs.Writing.{writtenOver, refusedWriting, writtenFor, Wrote}
 use Rattle.output.specs.Building.{Says, Adds}
 
 -- ---- additions
@@ -56,14 +56,14 @@ copied-more s d i h k =
 
 module _ (bytes before : List ℕ) {used : ℕ} (size : used ≡ length bytes) where
   pub wrote-nothing : length before < used → Wrote bytes before before (refusedWriting (refusal 19 used))
-  unfolding over writtenFor
+  unfolding writtenOver writtenFor
   wrote-nothing h =
       let test = lt-leb (length bytes) (length before) (omega arith) in
       record { answer = rw (test, size); buffer = rw test }
 
   pub wrote : {after : List ℕ} → used ≤ length before → after ≡ bytes ++ drop used before
       → Wrote bytes before after (record { refusal = refusal 0 0; length = used })
-  unfolding over writtenFor
+  unfolding writtenOver writtenFor
   wrote h e =
       let test = le-leb (length bytes) (length before) (omega arith) in
       record { answer = rw (test, size); buffer = rw test (e ∙ ap (λ (k : ℕ). bytes ++ drop k before) size) }

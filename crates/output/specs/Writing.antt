@@ -1,6 +1,7 @@
 -- What a call that writes bytes to the front of a lent buffer answers, and what it leaves there.
 --
---   over bytes before       the buffer with the bytes written to its front; one that is too short is left as it is: "bytes past it are
+--   writtenOver bytes before
+--                           the buffer with the bytes written to its front; one that is too short is left as it is: "bytes past it are
 --                           untouched", "a refused one alters no lent byte"
 --   refusedWriting r        a refusal; the length is 0
 --   writtenFor bytes size   the answer where the buffer has so many bytes: "19 (place: the length needed), lent buffer too short"; else "an
@@ -17,8 +18,8 @@ use Rattle.terms.specs.declared.Refusal.{Refusal}
 use Rattle.terms.specs.Refusals.{refusal, unless}
 use Rattle.output.specs.declared.Written.{Written}
 
-unfoldable pub over : List ℕ → List ℕ → List ℕ
-over bytes before = cond (leb (length bytes) (length before)) (bytes ++ drop (length bytes) before) before
+unfoldable pub writtenOver : List ℕ → List ℕ → List ℕ
+writtenOver bytes before = cond (leb (length bytes) (length before)) (bytes ++ drop (length bytes) before) before
 
 abbrev pub refusedWriting : Refusal → Written
 refusedWriting r = record { refusal = r; length = 0 }
@@ -30,4 +31,4 @@ writtenFor bytes size =
 
 pub record Wrote (bytes before after : List ℕ) (r : Written) : Type 0 where
   pub answer : r ≡ writtenFor bytes (length before)
-  pub buffer : after ≡ over bytes before
+  pub buffer : after ≡ writtenOver bytes before

@@ -27,7 +27,7 @@ use lib.Dec.{ltb, leb}
 use lib.ListN.{length}
 use Rattle.terms.specs.Kinds.{row, channel, box, twoLayer, byKind, word}
 use Rattle.terms.specs.Refusals.{accepted, unless}
-use Rattle.output.specs.Writing.{over}
+use Rattle.output.specs.Writing.{writtenOver}
 use Rattle.survey.specs.declared.SurveyAnswer.{SurveyAnswer}
 use Rattle.survey.specs.declared.LineAnswer.{LineAnswer}
 use Rattle.survey.specs.Survey.{surveyOf}
@@ -82,4 +82,4 @@ pub record Lined (s before after : List ℕ) (r : LineAnswer) : Type 0 where
   pub needed : r .length ≡ length (lineOf s)
   pub short : r .length ≤ longestLine
   pub written : r .ok ≡ leb (length (lineOf s)) (length before)
-  pub bytes : after ≡ over (lineOf s) before
+  pub bytes : after ≡ writtenOver (lineOf s) before

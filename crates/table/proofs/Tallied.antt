@@ -23,13 +23,13 @@ use Rattle.table.proofs.Bytes.{pin-count}
 use Rattle.counting.proofs.Leasts.{least-same}
 use Rattle.survey.specs.Survey.{surveyed, surveyOf}
 use Rattle.router.specs.Lay.{layFor, layOf}
-use Rattle.table.specs.Decide.{bytesOf, tallied}
+use Rattle.table.specs.Decide.{timesIn, tallied}
 
 module _ (s : List ℕ) (h : Header s) (w : Extents s (endsOf s)) where
-  lone-by-bytes : loneNet (pinsIn (pinsAt s (endsOf s))) ≡ least (λ v. eqb (bytesOf s v) 1) largestNet
+  lone-by-bytes : loneNet (pinsIn (pinsAt s (endsOf s))) ≡ least (λ v. eqb (timesIn s v) 1) largestNet
   lone-by-bytes = least-same _ _ largestNet (λ v i. ap (λ (k : ℕ). eqb k 1) (pin-count s (endsOf s) v (λ z. omega arith) h w))
 
-  nets-by-bytes : netCount (pinsIn (pinsAt s (endsOf s))) ≡ nets (λ v. leb 1 (bytesOf s v))
+  nets-by-bytes : netCount (pinsIn (pinsAt s (endsOf s))) ≡ nets (λ v. leb 1 (timesIn s v))
   nets-by-bytes = count-same _ _ largestNet (λ v i. ap (leb 1) (pin-count s (endsOf s) v (λ z. omega arith) h w))
 
 pub read-tallied : (s : List ℕ) → ticketOf s ≡ tallied s

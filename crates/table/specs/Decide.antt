@@ -3,7 +3,7 @@
 --
 --   times s v from k       how often v stands in the k bytes from byte from on
 --   onSide s v from p end  how many net bytes of a side are v; the side has p places, and its bytes are from `from` on, before `end`
---   bytesOf s v            how many net bytes of the ticket are v: as many as the pins that hold v, and quicker to count
+--   timesIn s v            how many net bytes of the ticket are v: as many as the pins that hold v, and quicker to count
 --   tallied s              what the ticket says, with the pins of each net counted by its bytes
 --   way g l                0 for a horizontal layer, 1 for a vertical one
 --   isNear a b             one of the numbers is the next after the other
@@ -51,8 +51,8 @@ times s v from k = count (λ j. eqb (byte s (from + (j - 1))) v) k
 abbrev pub onSide : List ℕ → ℕ → ℕ → ℕ → ℕ → ℕ
 onSide s v from p end = times s v (from + mapBytes p) (end - (from + mapBytes p))
 
-abbrev pub bytesOf : List ℕ → ℕ → ℕ
-bytesOf s v =
+abbrev pub timesIn : List ℕ → ℕ → ℕ
+timesIn s v =
     onSide s v 4 (byte s 1) (northEnd s .at) + onSide s v (northEnd s .at) (byte s 1) (southEnd s .at)
     + onSide s v (southEnd s .at) (byte s 2) (westEnd s .at) + onSide s v (westEnd s .at) (byte s 2) (eastEnd s .at)
 
@@ -61,8 +61,8 @@ tallied s =
     orRefused (headerOf s)
     (orRefused (eastEnd s)
     (orRefused (leftOver s (eastEnd s .at))
-    (orRefused (noLone (least (λ v. eqb (bytesOf s v) 1) largestNet))
-    (acceptedReading (problemAt s (nets (λ v. leb 1 (bytesOf s v))) (pinsAt s (endsOf s)))))))
+    (orRefused (noLone (least (λ v. eqb (timesIn s v) 1) largestNet))
+    (acceptedReading (problemAt s (nets (λ v. leb 1 (timesIn s v))) (pinsAt s (endsOf s)))))))
 
 -- ---- nodes
 
