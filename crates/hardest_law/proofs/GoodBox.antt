@@ -124,7 +124,7 @@ module _ (n w : ℕ) where
       | no gt ↦ let none = no-pin (boxPins n w) m (λ s a q. omega (arith, net-most s a)) in rw none (sym (lt-leb m (n + w) (omega arith)))
     ]
 
-    pub hardest-nets : netCount (pinsIn (hardestBox n w .pins)) ≡ n + w
+    hardest-nets : netCount (pinsIn (hardestBox n w .pins)) ≡ n + w
     hardest-nets =
         count-same _ _ largestNet (λ m i. counted m (i .0))
         ∙ sym (sum-past (λ m. bit (leb m (n + w))) (n + w) largestNet (omega arith) (λ m past. bit-zero (lt-leb m (n + w) past)))

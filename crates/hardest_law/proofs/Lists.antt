@@ -25,7 +25,7 @@ pub side-at : (f : ℕ → ℕ) (p a : ℕ) → p ≤ longestSide → In a p →
 unfolding sideList
 side-at f p a few i = entry-values (λ a. cond (leb a p) (f a) 0) longestSide a (omega arith) ∙ rw (le-leb a p (i .1))
 
-pub side-past : (f : ℕ → ℕ) (p a : ℕ) → p < a → entry (sideList f p) a ≡ 0
+side-past : (f : ℕ → ℕ) (p a : ℕ) → p < a → entry (sideList f p) a ≡ 0
 unfolding sideList
 side-past f p a past = ⊎-elim
     (λ le. entry-values (λ a. cond (leb a p) (f a) 0) longestSide a (omega arith) ∙ rw (lt-leb a p past))

@@ -1,5 +1,5 @@
 -- Read accepts the bytes of a good problem and reads that problem: each side was written where Read looks for it.
-use Prim.Native.Nat.{ℕ, _+_, _≤_}
+use Prim.Native.Nat.{ℕ, _+_}
 use mathlib.Core.Path.{_≡_, refl, sym, ap, _∙_, subst}
 use mathlib.Core.Bool.{Bool, true, false}
 use mathlib.Core.List.{List, [], _∷_, _++_, append-assoc}
@@ -10,13 +10,11 @@ use Rattle.terms.specs.Kinds.{north, south, west, east}
 use Rattle.terms.proofs.Laws.{boxes-only}
 use Rattle.problem.specs.declared.Problem.{Problem}
 use Rattle.problem.specs.Problem.{pinsIn, loneNet, widthOf, Good}
-use Rattle.ticket_sides.specs.Format.{byte, longestTicket, isOn, sideNets}
+use Rattle.ticket_sides.specs.Format.{byte, isOn, sideNets}
 use Rattle.ticket_sides.specs.Stages.{goOn, headerOf, northEnd, southEnd, westEnd, eastEnd, endsOf}
 use Rattle.ticket_sides.specs.declared.Cursor.{Cursor}
-use Rattle.ticket.specs.declared.Reading.{Reading}
 use Rattle.ticket.specs.Read.{pinsAt, leftOver, noLone, judged, ticketOf, acceptedReading}
 use Rattle.ticket.proofs.Laws.{going-on}
-use Rattle.ticket.proofs.Longest.{longest}
 use Rattle.ticket_bytes.specs.Bytes.{sideMap, bytesOn, bytesOf, Sized}
 use Rattle.ticket_bytes.proofs.Parts.{Part, whole, front, back}
 use Rattle.ticket_bytes.proofs.Sides.{side-read}
@@ -145,6 +143,3 @@ module _ (s : List ℕ) (q : Problem) (good : Good q) (sized : Sized q) (states 
 
 pub read-back : (q : Problem) → Good q → Sized q → ticketOf (bytesOf q) ≡ acceptedReading q
 read-back q good sized = accepted-read (bytesOf q) q good sized (bytes-state q)
-
-pub bytes-length : (q : Problem) → Good q → Sized q → length (bytesOf q) ≤ longestTicket
-bytes-length q good sized = longest (bytesOf q) (ap (λ (r : Reading). r .refusal .number) (read-back q good sized))

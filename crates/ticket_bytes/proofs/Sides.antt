@@ -12,7 +12,7 @@ use lib.ListN.{length}
 use lib.Seq.{ext-getD}
 use borrow.Author.Tests.{le-leb, lt-leb, lt-ltb, eq-eqb, leb-false}
 use Rattle.counting.specs.Counting.{In, bit, count}
-use Rattle.counting.proofs.Sums.{split, bit-one, bit-zero, sum-past, sum-part}
+use Rattle.counting.proofs.Sums.{split, bit-one, sum-past, sum-part}
 use Rattle.counting.proofs.Counts.{some-in, some-of, count-same}
 use Rattle.terms.specs.Limits.{largestNet, longestSide}
 use Rattle.terms.proofs.Laws.{within-of}

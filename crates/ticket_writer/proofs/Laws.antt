@@ -1,7 +1,7 @@
 -- The definitions of a ticket's bytes as loops over places pass them, one place or byte more at a time.
 use Prim.Native.Nat.{ℕ, zero, suc, _+_, _-_, _*_, _^_, _≤_, _<_}
 use mathlib.Core.Path.{_≡_, refl, sym, ap, _∙_, subst}
-use mathlib.Core.Bool.{Bool, true, false, _&&_}
+use mathlib.Core.Bool.{Bool, _&&_}
 use mathlib.Core.List.{List, [], _∷_, _++_, append-nil}
 use native.Mathlib.Nat.{add-zero, zero-add, add-suc, suc-add}
 use native.Mathlib.Numerals.{add-one}
@@ -26,10 +26,6 @@ pub entry-next : (l : List ℕ) (i : ℕ) → entry l (i + 1) ≡ getD l i 0
 entry-next l i = rw (add-one i)
 
 -- ---- a byte of the map
-
-pub bit-value : (b : Bool) (power : ℕ) → bit b * power ≤ power
-bit-value true power = omega arith
-bit-value false power = omega arith
 
 pub power-of : (b : ℕ) → b ≤ 8 → 2 ^ b ≤ byteValues
 power-of b h = pow-mono h

@@ -36,7 +36,7 @@ fn is_filled(nets: &[u8; LONGEST_SIDE], i: usize, places: usize) -> bool
 
 // The value of a bit that stands or not.
 fn value_of(stands: bool, power: usize) -> usize
-    ensures { λ r. ⌜ r ≡ bit stands * power ⌝ }
+    ensures { λ r. ⌜ (r ≡ bit stands * power) × (r ≤ power) ⌝ }
 {
     if stands { power } else { 0 }
 }

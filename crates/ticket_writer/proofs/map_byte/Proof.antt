@@ -8,7 +8,7 @@ use denote.Ref.{now}
 use borrow.Author.Needs.{needs}
 use Rattle.grid.specs.Legal.{entry}
 use Rattle.ticket_bytes.specs.Bytes.{mapByte}
-use Rattle.ticket_writer.proofs.Laws.{bit-value, lowest, lowest-more, lowest-none, power-of}
+use Rattle.ticket_writer.proofs.Laws.{lowest, lowest-more, lowest-none, power-of}
 use Rattle.ticket_writer.proofs.map_byte.Statement.{statement}
 use Rattle.ticket_writer.proofs.map_byte.Tie as tie
 
@@ -27,7 +27,7 @@ loop-holds c =
 add-value : tie.Need-add-value Inv-loop μ-loop
 add-value c =
     let l = c .before .before .before .loop in
-    omega (arith, l .inv .2, l .inv .3, c .value-of .ensures, bit-value (c .before .is-filled .result) (l .power))
+    omega (arith, l .inv .2, l .inv .3, c .value-of .ensures .1)
 
 mul-power : tie.Need-mul-power Inv-loop μ-loop
 mul-power c = omega (arith, c .before .before .before .loop .inv .3)
@@ -40,9 +40,9 @@ loop-again c =
     let double : l .power * 2 ≡ 2 ^ (l .b + 1) = ap (λ (x : ℕ). x * 2) (l .inv .1) ∙ sym (rw (add-one (l .b)) (pow-suc 2 (l .b))) in (
       omega arith,
       double,
-      omega (arith, l .inv .2, c .value-of .ensures, bit-value t (l .power)),
+      omega (arith, l .inv .2, c .value-of .ensures .1),
       rw double (power-of (l .b + 1) (omega arith)),
-      ap₂ (λ (x y : ℕ). x + y) (l .inv .4) (c .value-of .ensures) ∙ sym
+      ap₂ (λ (x y : ℕ). x + y) (l .inv .4) (c .value-of .ensures .0) ∙ sym
           (lowest-more (entry (now (a .nets))) (a .places) (a .j) (l .b) (l .power) t (l .inv .1) (c .before .is-filled .ensures)),
     )
 

@@ -5,7 +5,6 @@ use mathlib.Core.Path.{_≡_, ap, _∙_}
 use native.Mathlib.Omega.{arith}
 use borrow.Author.Needs.{needs}
 use Rattle.counting.specs.Counting.{bit}
-use Rattle.ticket_writer.proofs.Laws.{bit-value}
 use Rattle.ticket_writer.proofs.side_map.Statement.{statement}
 use Rattle.ticket_writer.proofs.side_map.Tie as tie
 
@@ -13,62 +12,19 @@ use Rattle.ticket_writer.proofs.side_map.Tie as tie
 value : (power : ℕ) {r : ℕ} {t t′ : Bool} → t ≡ t′ → r ≡ bit t * power → r ≡ bit t′ * power
 value power e f = f ∙ ap (λ (b : Bool). bit b * power) e
 
-add-along : tie.Need-add-along
-add-along c = omega (
-  arith,
-  c .value-of2 .ensures,
-  c .before .before .value-of .ensures,
-  bit-value (c .before .has-pins2 .result) 2,
-  bit-value (c .before .before .before .has-pins .result) 1,
-)
-
-add-ends : tie.Need-add-ends
-add-ends c = let c2 = c .before .before in omega (
-  arith,
-  c .value-of4 .ensures,
-  c2 .value-of3 .ensures,
-  bit-value (c .before .has-pins4 .result) 8,
-  bit-value (c2 .before .has-pins3 .result) 4,
-)
-
-add-result : tie.Need-add-result
-add-result c = let c2 = c .before .before in let c4 = c2 .before .before in omega (
-  arith,
-  c .value-of4 .ensures,
-  c2 .value-of3 .ensures,
-  c4 .value-of2 .ensures,
-  c4 .before .before .value-of .ensures,
-  bit-value (c .before .has-pins4 .result) 8,
-  bit-value (c2 .before .has-pins3 .result) 4,
-  bit-value (c4 .before .has-pins2 .result) 2,
-  bit-value (c4 .before .before .before .has-pins .result) 1,
-)
-
-cast-result : tie.Need-cast-result
-cast-result c = let c2 = c .before .before in let c4 = c2 .before .before in omega (
-  arith,
-  c .value-of4 .ensures,
-  c2 .value-of3 .ensures,
-  c4 .value-of2 .ensures,
-  c4 .before .before .value-of .ensures,
-  bit-value (c .before .has-pins4 .result) 8,
-  bit-value (c2 .before .has-pins3 .result) 4,
-  bit-value (c4 .before .has-pins2 .result) 2,
-  bit-value (c4 .before .before .before .has-pins .result) 1,
-)
-
 returns : tie.Need-returns
 returns c =
     let c2 = c .before .before in
     let c4 = c2 .before .before in
     let c6 = c4 .before .before in
-    let n = value 1 (c6 .before .has-pins .ensures) (c6 .value-of .ensures) in
-    let s = value 2 (c4 .before .has-pins2 .ensures) (c4 .value-of2 .ensures) in
-    let w = value 4 (c2 .before .has-pins3 .ensures) (c2 .value-of3 .ensures) in
-    let e = value 8 (c .before .has-pins4 .ensures) (c .value-of4 .ensures) in
+    let n = value 1 (c6 .before .has-pins .ensures) (c6 .value-of .ensures .0) in
+    let s = value 2 (c4 .before .has-pins2 .ensures) (c4 .value-of2 .ensures .0) in
+    let w = value 4 (c2 .before .has-pins3 .ensures) (c2 .value-of3 .ensures .0) in
+    let e = value 8 (c .before .has-pins4 .ensures) (c .value-of4 .ensures .0) in
     omega (arith, n, s, w, e)
 
 pub side-map-spec : {M : Type 1} → statement M
 side-map-spec =
-    tie.close (tie.spec (λ c κs. search needs) (λ c κs. search needs) (λ c κs. search needs) (λ c κs. search needs) add-along
-    (λ c κs. search needs) (λ c κs. search needs) (λ c κs. search needs) (λ c κs. search needs) add-ends add-result cast-result returns)
+    tie.close (tie.spec (λ c κs. search needs) (λ c κs. search needs) (λ c κs. search needs) (λ c κs. search needs) (λ c. search needs)
+    (λ c κs. search needs) (λ c κs. search needs) (λ c κs. search needs) (λ c κs. search needs) (λ c. search needs) (λ c. search needs)
+    (λ c. search needs) returns)
