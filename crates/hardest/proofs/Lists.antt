@@ -1,36 +1,22 @@
--- The lists of the written box as code makes them: filled place by place, and the first net of one exchanged.
-use Prim.Native.Nat.{ℕ, suc, _+_, _≤_, _<_}
+-- The lists of the written box as code makes them, the first net of one exchanged.
+use Prim.Native.Nat.{ℕ, suc, _+_, _≤_}
 use mathlib.Core.Path.{_≡_, sym, ap, ap₂, _∙_, fun-ext}
 use mathlib.Core.Bool.{cond}
 use mathlib.Core.List.{List, _∷_}
 use native.Mathlib.Nat.{zero-add}
 use native.Mathlib.Omega.{arith}
-use lib.Dec.{leb, eqb}
+use lib.Dec.{eqb}
 use lib.ListN.{getD, set}
-use borrow.Author.Tests.{le-leb, lt-leb, ne-eqb}
+use borrow.Author.Tests.{le-leb, ne-eqb}
 use Rattle.counting.specs.Counting.{In}
 use Rattle.terms.specs.Kinds.{north, south, west, east, box}
 use Rattle.terms.specs.Limits.{longestSide}
 use Rattle.grid.specs.declared.Column.{Column}
 use Rattle.problem.specs.declared.Pins.{Pins}
 use Rattle.problem.specs.declared.Problem.{Problem}
-use Rattle.ticket_sides.specs.Format.{valuesFrom}
-use Rattle.ticket.proofs.Filled.{Filled, filled-set, filled-end, values-same}
-use Rattle.hardest_law.specs.Box.{rotated, netAt, sideList, hardestBox}
-use Rattle.hardest_law.proofs.Lists.{side-at}
-
--- f at the places 1 to p, and 0 past them
-abbrev pub upTo : (ℕ → ℕ) → ℕ → ℕ → ℕ
-upTo f p a = cond (leb a p) (f a) 0
-
-module _ (f : ℕ → ℕ) (p i : ℕ) (l : List ℕ) where
-  pub fill-more : {v : ℕ} → p ≤ longestSide → i < p → v ≡ f (i + 1) → Filled (upTo f p) longestSide i l
-      → Filled (upTo f p) longestSide (i + 1) (set l i v)
-  fill-more {v} few less e w = filled-set (upTo f p) longestSide i v l (omega arith) (e ∙ rw (le-leb (i + 1) p (omega arith))) w
-
-  pub fill-end : i ≡ p → Filled (upTo f p) longestSide i l → l ≡ sideList f p
-  unfolding sideList
-  fill-end e w = filled-end (upTo f p) longestSide i l (λ a past. rw (lt-leb a p (omega arith))) w
+use Rattle.ticket_sides.specs.Format.{valuesFrom, sideList}
+use Rattle.ticket.proofs.Filled.{upTo, side-at, values-same}
+use Rattle.hardest_law.specs.Box.{rotated, netAt, hardestBox}
 
 -- ---- the exchange
 

@@ -16,7 +16,8 @@ ghost use mathlib.Core.Path.{_≡_};
 ghost use Prim.Native.Nat.{_+_, _≤_};
 ghost use Rattle.counting.specs.Counting.{In};
 ghost use Rattle.terms.specs.Limits.{longestSide};
-ghost use Rattle.hardest_law.specs.Box.{rotated, sideList, hardestBox};
+ghost use Rattle.ticket_sides.specs.Format.{sideList};
+ghost use Rattle.hardest_law.specs.Box.{rotated, hardestBox};
 ghost use Rattle.hardest_law.specs.Hardest.{isShape, WritesHardest};
 
 fn is_shape(n: Column, w: Track) -> bool

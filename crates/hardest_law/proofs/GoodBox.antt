@@ -19,7 +19,8 @@ use Rattle.problem.specs.Problem.{pinsIn, pinCount, netCount, shapeOf, Another,
 use Rattle.problem.proofs.Pinned.{pinned, no-pin}
 use Rattle.ticket_bytes.specs.Bytes.{Sized}
 use Rattle.hardest_law.specs.Box.{netAt, rotated, hardestBox}
-use Rattle.hardest_law.proofs.Lists.{length-side, boxPins, net-past, net-at}
+use Rattle.ticket.proofs.Filled.{length-side}
+use Rattle.hardest_law.proofs.Lists.{boxPins, net-past, net-at}
 use Rattle.hardest_law.proofs.Rotation.{rotated-in, opposite}
 
 pub hardest-sized : (n w : ℕ) → Sized (hardestBox n w)

@@ -6,16 +6,13 @@
 --   rotated p a       place a of p moved on by half of them, around past the last
 --   netAt n w s a     the net of place a of side s: north i and the south place that is rotated to i hold net i, west j and the east
 --                     place that is rotated to j hold net n + j; but south 1 and west 1 have exchanged their nets
---   sideList f p      a side's list of 90 nets: f at its places 1 to p, and 0 past them
 --   hardestBox n w    the problem
 use Prim.Native.Nat.{ℕ, _+_, _-_, _/_}
 use mathlib.Core.Bool.{cond}
-use mathlib.Core.List.{List}
 use lib.Dec.{leb, eqb}
 use Rattle.terms.specs.Kinds.{Side, north, south, west, east, box}
-use Rattle.terms.specs.Limits.{longestSide}
 use Rattle.problem.specs.declared.Problem.{Problem}
-use Rattle.ticket_sides.specs.Format.{valuesFrom}
+use Rattle.ticket_sides.specs.Format.{sideList}
 
 abbrev pub half : ℕ → ℕ
 half p = (p + 1) / 2
@@ -28,9 +25,6 @@ netAt n w north a = a
 netAt n w south a = cond (eqb a 1) (n + 1) (rotated n a)
 netAt n w west a = cond (eqb a 1) (rotated n 1) (n + a)
 netAt n w east a = n + rotated w a
-
-unfoldable pub sideList : (ℕ → ℕ) → ℕ → List ℕ
-sideList f p = valuesFrom (λ a. cond (leb a p) (f a) 0) 1 longestSide
 
 abbrev pub hardestBox : ℕ → ℕ → Problem
 hardestBox n w =

@@ -1,5 +1,5 @@
 -- The sides of a reading that is not refused: from which byte to which each one lies.
-use Prim.Native.Nat.{ℕ, zero, suc, _+_, _≤_}
+use Prim.Native.Nat.{ℕ, _+_, _≤_}
 use mathlib.Core.Bool.{Bool, true, false, and-false}
 use mathlib.Core.List.{List}
 use mathlib.Core.Logic.{by-cases}
@@ -9,7 +9,7 @@ use native.Mathlib.Omega.{arith}
 use lib.Dec.{leb}
 use lib.ListN.{length}
 use borrow.Author.Tests.{eq-eqb, ne-eqb, leb-true}
-use Rattle.ticket.proofs.Laws.{unless-good, nets-good}
+use Rattle.ticket.proofs.Laws.{unless-good, nets-extent}
 use Rattle.ticket_sides.specs.Format.{stands, standingBits, mapBytes, goodMap}
 use Rattle.ticket_sides.specs.Stages.{goOn, netsOf, sideOf, after, northEnd, southEnd, westEnd, eastEnd, endsOf}
 use Rattle.ticket.specs.Steps.{Extent, Extents}
@@ -19,22 +19,13 @@ use Rattle.ticket_sides.specs.declared.Ends.{Ends}
 
 -- ---- where a side ends
 
--- good net bytes are all there
-nets-extent : (s : List ℕ) (k i : ℕ) → i ≤ length s → netsOf s i k .refusal .number ≡ 0 → (netsOf s i k .at ≡ i + k) × (i + k ≤ length s)
-unfolding netsOf
-nets-extent s zero i l e = (omega arith, omega arith)
-nets-extent s (suc k) i l e =
-    let g = nets-good s k i e in
-    let r = nets-extent s k (i + 1) (omega arith) (g .2) in
-    (omega (arith, ap (λ (c : Cursor). c .at) (g .3)), omega arith)
-
 -- a side that stands was read after c
 pub record SideRead (s : List ℕ) (p : ℕ) (c : Cursor) : Type 0 where
   pub before : c .refusal .number ≡ 0
   pub map : c .at + mapBytes p ≤ length s
   pub good : goodMap s (c .at) p ≡ true
-  pub nets : netsOf s (c .at + mapBytes p) (standingBits s (c .at) p) .refusal .number ≡ 0
-  pub end : after s true p c ≡ netsOf s (c .at + mapBytes p) (standingBits s (c .at) p)
+  pub nets : netsOf 1 s (c .at + mapBytes p) (standingBits s (c .at) p) .refusal .number ≡ 0
+  pub end : after s true p c ≡ netsOf 1 s (c .at + mapBytes p) (standingBits s (c .at) p)
 
 pub side-read : (s : List ℕ) (p : ℕ) (c : Cursor) → after s true p c .refusal .number ≡ 0 → SideRead s p c
 unfolding after sideOf
@@ -42,7 +33,8 @@ side-read s p c e =
     by-cases (ℕ-discrete (c .refusal .number) 0)
     (λ z.
     let here : after s true p c ≡ sideOf s (c .at) p = rw (eq-eqb (c .refusal .number) 0 z) in
-    let a = unless-good (leb (c .at + mapBytes p) (length s)) 1 (length s) _ (λ q. omega arith) (ap (λ (x : Cursor). x .refusal .number) (sym here) ∙ e) in
+    let a = unless-good (leb (c .at + mapBytes p) (length s)) 1 (length s) _ (λ q. omega arith)
+    (ap (λ (x : Cursor). x .refusal .number) (sym here) ∙ e) in
     let b = unless-good (goodMap s (c .at) p) 6 (c .at) _ (λ q. omega arith) (a .1) in
     record { before = z; map = leb-true _ _ (a .0); good = b .0; nets = b .1; end = here ∙ a .2 ∙ b .2 })
     (λ n. absurd (n (rw (ne-eqb (c .refusal .number) 0 n) at e)))
@@ -59,7 +51,7 @@ side-extent : (s : List ℕ) (on : Bool) (p : ℕ) (c : Cursor) → c .at ≤ le
     (after s on p c .at)
 side-extent s true p c l e =
     let r = side-read s p c e in
-    let n = nets-extent s (standingBits s (c .at) p) (c .at + mapBytes p) (r .map) (r .nets) in
+    let n = nets-extent 1 s (standingBits s (c .at) p) (c .at + mapBytes p) (r .map) (r .nets) in
     let end = ap (λ (x : Cursor). x .at) (r .end) ∙ n .0 in
     record { stands = λ t. end; lacks = λ t. let z : _≡_ {A = ℕ} 0 1 = cc in absurd (omega arith); start = omega arith; size = omega arith }
 side-extent s false p c l e =

@@ -11,13 +11,13 @@ use lib.ListN.{length, take}
 use lib.Seq.{getD-take, length-take-le, take-all}
 use borrow.Author.Tests.{le-leb, lt-leb, lt-ltb}
 use Rattle.counting.proofs.Counts.{count-same}
-use Rattle.terms.specs.Limits.{longestSide, largestNet, within}
+use Rattle.terms.specs.Limits.{longestSide}
 use Rattle.ticket_sides.proofs.Bits.{standing-le}
 use Rattle.ticket_sides.proofs.Flags.{le-or-lt}
 use Rattle.ticket.proofs.Good.{passed}
 use Rattle.ticket.proofs.Laws.{header-good, second-le, turned-down}
 use Rattle.ticket_sides.specs.Format.{byte, longestTicket, isOn, standingBits, mapBytes, goodMap}
-use Rattle.ticket_sides.specs.Stages.{stop, goOn, headerOf, netsOf, sideOf, after, northEnd, southEnd, westEnd, eastEnd, endsOf}
+use Rattle.ticket_sides.specs.Stages.{stop, goOn, headerOf, isNet, netsOf, sideOf, after, northEnd, southEnd, westEnd, eastEnd, endsOf}
 use Rattle.ticket.specs.Read.{pinsAt, leftOver, judged, orRefused, refusedReading, ticketOf}
 use Rattle.terms.specs.Refusals.{unless}
 use Rattle.terms.proofs.Laws.{known}
@@ -30,12 +30,12 @@ unless-at : (t : Bool) (k p : ℕ) (c : Cursor) (b : ℕ) → c .at ≤ b → un
 unless-at true k p c b h = h
 unless-at false k p c b h = omega arith
 
-nets-at : (s : List ℕ) (k i : ℕ) → netsOf s i k .at ≤ i + k
+nets-at : (s : List ℕ) (k i : ℕ) → netsOf 1 s i k .at ≤ i + k
 unfolding netsOf
 nets-at s zero i = omega arith
 nets-at s (suc k) i =
     unless-at (ltb i (length s)) 1 (length s) _ (i + suc k)
-    (unless-at (within (byte s i) largestNet) 7 i (netsOf s (i + 1) k) (i + suc k) (omega (arith, nets-at s k (i + 1))))
+    (unless-at (isNet 1 (byte s i)) 7 i (netsOf 1 s (i + 1) k) (i + suc k) (omega (arith, nets-at s k (i + 1))))
 
 -- the most bytes of a side: its map and a net for each place
 abbrev mostSide : ℕ
@@ -45,7 +45,7 @@ side-at : (s : List ℕ) (from p : ℕ) → p ≤ longestSide → sideOf s from 
 unfolding sideOf
 side-at s from p few =
     unless-at (leb (from + mapBytes p) (length s)) 1 (length s) _ (from + mostSide)
-    (unless-at (goodMap s from p) 6 from (netsOf s (from + mapBytes p) (standingBits s from p)) (from + mostSide)
+    (unless-at (goodMap s from p) 6 from (netsOf 1 s (from + mapBytes p) (standingBits s from p)) (from + mostSide)
     (omega (arith, nets-at s (standingBits s from p) (from + mapBytes p), standing-le s from p)))
 
 after-at : (s : List ℕ) (on : Bool) (p : ℕ) (c : Cursor) → p ≤ longestSide → after s on p c .at ≤ c .at + mostSide
@@ -75,7 +75,8 @@ reached s one two =
 pub longest : (s : List ℕ) → ticketOf s .refusal .number ≡ 0 → length s ≤ longestTicket
 longest s e =
     let r = passed s e in
-    omega (arith, r .end, reached s (r .header .length .1) (omega (arith, r .header .second, second-le (known (byte s 0) (r .header .named)))) .east)
+    let two = second-le (known (byte s 0) (r .header .named)) in
+    omega (arith, r .end, reached s (r .header .length .1) (omega (arith, r .header .second, two)) .east)
 
 pub longer-refused : (s : List ℕ) → longestTicket < length s → ticketOf s .refusal .number ≢ 0
 longer-refused s h e = omega (arith, longest s e)
@@ -88,7 +89,7 @@ record Alike (s t : List ℕ) : Type 0 where
   bytes : (i : ℕ) → i < longestTicket → byte s i ≡ byte t i
 
 module _ (s t : List ℕ) (q : Alike s t) where
-  nets-alike : (k i : ℕ) → i + k ≤ longestTicket → netsOf s i k ≡ netsOf t i k
+  nets-alike : (k i : ℕ) → i + k ≤ longestTicket → netsOf 1 s i k ≡ netsOf 1 t i k
   unfolding netsOf
   nets-alike zero i h = refl
   nets-alike (suc k) i h =

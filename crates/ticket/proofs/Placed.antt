@@ -1,23 +1,22 @@
 -- The places of a side, and its net bytes as a list and put at their places: a place has the next net byte times its bit.
 use Prim.Native.Nat.{ℕ, zero, suc, _+_, _-_, _*_, _/_, _%_, _^_, _≤_, _<_}
-use mathlib.Core.Bool.{Bool, true, false, cond, and-false}
+use mathlib.Core.Bool.{Bool, true, false, and-false}
 use mathlib.Core.List.{List}
 use mathlib.Core.Logic.{⊎-elim}
 use mathlib.Core.Path.{_≡_, refl, sym, ap, _∙_}
 use native.Mathlib.Nat.{add-zero}
 use native.Mathlib.Numerals.{add-one}
 use native.Mathlib.Omega.{arith}
-use lib.Dec.{leb}
 use lib.ListN.{getD}
 use borrow.Author.Tests.{le-leb, lt-leb}
 use Rattle.counting.specs.Counting.{bit}
 use Rattle.counting.proofs.Sums.{split, bit-le, bit-one, bit-zero, sum-more, sum-grows}
 use Rattle.terms.specs.Limits.{longestSide}
+use Rattle.grid.specs.Legal.{entry}
 use Rattle.ticket_sides.proofs.Bits.{bit-mod, standing-le}
-use Rattle.ticket.proofs.Filled.{getD-values, values-same}
+use Rattle.ticket.proofs.Filled.{upTo, side-at, values-same}
 use Rattle.ticket_sides.proofs.Flags.{le-or-lt}
-use Rattle.ticket_sides.specs.Format.{byte, isOn, stands, standingBits, mapBytes, pinNet, sideNets}
-use Rattle.ticket.specs.Steps.{netList}
+use Rattle.ticket_sides.specs.Format.{byte, isOn, stands, standingBits, mapBytes, pinNet, sideList, netList, sideNets}
 
 -- ---- the places of a side, as a loop passes them
 
@@ -39,7 +38,13 @@ module _ (s : List ℕ) (from p : ℕ) (all : standingBits s from p ≡ p) where
   standing-back : (d i : ℕ) → i + d ≡ p → standingBits s from i ≡ i
   standing-back zero i e = let q : i ≡ p = omega arith in rw q all
   standing-back (suc d) i e =
-      omega (arith, standing-back d (i + 1) (omega arith), sum-more (λ a. bit (stands s from a)) i, bit-le (stands s from (i + 1)), standing-le s from i)
+      omega (
+        arith,
+        standing-back d (i + 1) (omega arith),
+        sum-more (λ a. bit (stands s from a)) i,
+        bit-le (stands s from (i + 1)),
+        standing-le s from i,
+      )
 
   pub full-standing : (i : ℕ) → i ≤ p → standingBits s from i ≡ i
   full-standing i h = standing-back (p - i) i (omega arith)
@@ -68,22 +73,16 @@ pin-off s from p a = refl
 
 -- ---- the list
 
-module _ (s : List ℕ) (from k : ℕ) where
-  -- what stands at place a of the list
+module _ (s : List ℕ) (from : ℕ) where
+  -- the byte of place a
   abbrev pub netOf : ℕ → ℕ
-  netOf a = cond (leb a k) (byte s (from + (a - 1))) 0
+  netOf a = byte s (from + (a - 1))
 
-  pub net-of : (j : ℕ) → j < k → netOf (j + 1) ≡ byte s (from + j)
-  net-of j h = let back : j + 1 - 1 ≡ j = omega arith in rw (le-leb (j + 1) k (omega arith), back)
+  pub net-of : (j : ℕ) → netOf (j + 1) ≡ byte s (from + j)
+  net-of j = let back : j + 1 - 1 ≡ j = omega arith in rw back
 
-  pub net-past : (a : ℕ) → k < a → netOf a ≡ 0
-  net-past a h = rw (lt-leb a k h)
-
-  net-at : (j : ℕ) → j < k → j < longestSide → getD (netList s from k) j 0 ≡ byte s (from + j)
-  unfolding netList
-  net-at j h room =
-      let one : 1 + j ≡ j + 1 = omega arith in
-      getD-values netOf 1 longestSide j room ∙ ap netOf one ∙ net-of j h
+  net-at : (k j : ℕ) → k ≤ longestSide → j < k → getD (netList s from k) j 0 ≡ byte s (from + j)
+  net-at k j few h = ap (entry (netList s from k)) (sym (add-one j)) ∙ side-at netOf k (j + 1) few (omega arith) ∙ net-of j
 
 -- ---- its numbers at their places
 
@@ -101,31 +100,33 @@ module _ (s : List ℕ) (from p : ℕ) where
   abbrev nets : List ℕ
   nets = netList s (from + mapBytes p) (standingBits s from p)
 
-  pub pin-product : p ≤ longestSide → (i : ℕ) → i < p → getD nets (standingBits s from i) 0 * bit (stands s from (i + 1)) ≡ pinNet s true from p (i + 1)
+  pub pin-product : p ≤ longestSide → (i : ℕ) → i < p
+      → getD nets (standingBits s from i) 0 * bit (stands s from (i + 1)) ≡ pinNet s true from p (i + 1)
   pin-product few i h =
       split (stands s from (i + 1))
       (λ t.
       let less = standing-below s from p i h t in
       rw (bit-one t) (omega (
         arith,
-        net-at s (from + mapBytes p) (standingBits s from p) (standingBits s from i) less (omega (arith, standing-le s from i)),
+        net-at s (from + mapBytes p) (standingBits s from p) (standingBits s from i) (omega (arith, standing-le s from p)) less,
         pin-stands s from p i h t,
       )))
       (λ t. rw (bit-zero t) (omega (arith, pin-empty s true from p (i + 1) t)))
 
   -- a pin at each place: the list has them at their places
   pub full-list : standingBits s from p ≡ p → netList s (from + mapBytes p) p ≡ sideNets s true from p
-  unfolding netList sideNets
-  full-list all = values-same (netOf s (from + mapBytes p) p) (pinNet s true from p) longestSide 1 place
+  unfolding sideList sideNets
+  full-list all = values-same (upTo (netOf s (from + mapBytes p)) p) (pinNet s true from p) longestSide 1 place
     where
-      past : (i : ℕ) → p ≤ i → netOf s (from + mapBytes p) p (i + 1) ≡ pinNet s true from p (i + 1)
-      past i le = net-past s (from + mapBytes p) p (i + 1) (omega arith) ∙ sym (pin-past s true from p (i + 1) (omega arith))
+      past : (i : ℕ) → p ≤ i → upTo (netOf s (from + mapBytes p)) p (i + 1) ≡ pinNet s true from p (i + 1)
+      past i le = rw (lt-leb (i + 1) p (omega arith)) (sym (pin-past s true from p (i + 1) (omega arith)))
 
-      here : (i : ℕ) → i < p → netOf s (from + mapBytes p) p (i + 1) ≡ pinNet s true from p (i + 1)
+      here : (i : ℕ) → i < p → upTo (netOf s (from + mapBytes p)) p (i + 1) ≡ pinNet s true from p (i + 1)
       here i less =
-          net-of s (from + mapBytes p) p i less ∙ ap (λ (x : ℕ). byte s (from + mapBytes p + x)) (sym (full-standing s from p all i (omega arith)))
+          rw (le-leb (i + 1) p (omega arith)) (net-of s (from + mapBytes p) i)
+          ∙ ap (λ (x : ℕ). byte s (from + mapBytes p + x)) (sym (full-standing s from p all i (omega arith)))
           ∙ sym (pin-stands s from p i less (full-stands s from p all i less))
 
-      place : (a : ℕ) → 1 ≤ a → a < 1 + longestSide → netOf s (from + mapBytes p) p a ≡ pinNet s true from p a
+      place : (a : ℕ) → 1 ≤ a → a < 1 + longestSide → upTo (netOf s (from + mapBytes p)) p a ≡ pinNet s true from p a
       place zero h lt = absurd (omega arith)
       place (suc i) h lt = rw (← add-one) (⊎-elim (past i) (here i) (le-or-lt p i))

@@ -1,14 +1,13 @@
 -- Once the header and the sides are read, the pins are nets or empty, end with their side, and leave bare the sides that the kind lacks.
+-- Sides of at most 90 places follow from bytes 0 to 2 alone.
 use Prim.Native.Nat.{ℕ, zero, suc, _+_, _^_, _≤_, _<_}
 use mathlib.Core.Bool.{Bool, true, false, true≢false}
 use mathlib.Core.List.{List}
-use mathlib.Core.Logic.{_⊎_, inl, inr, _≢_, ⊎-elim}
+use mathlib.Core.Logic.{_⊎_, inl, inr, ⊎-elim}
 use mathlib.Core.Path.{_≡_, refl, sym, ap, _∙_, subst}
 use native.Mathlib.Nat.{div-eq-of-lt}
 use native.Mathlib.Numerals.{add-one}
 use native.Mathlib.Omega.{arith}
-use lib.Dec.{leb}
-use lib.ListN.{length}
 use Rattle.counting.specs.Counting.{In}
 use Rattle.counting.proofs.Sums.{split}
 use Rattle.terms.specs.Kinds.{Side, north, south, west, east, byKind, hasSide, largestSideMap, largestByte2}
@@ -20,13 +19,12 @@ use Rattle.ticket_sides.proofs.Flags.{le-or-lt}
 use Rattle.ticket.proofs.Placed.{standing-below, pin-stands, pin-empty, pin-past, pin-off}
 use Rattle.ticket.proofs.Filled.{entry-values, entry-past}
 use Rattle.ticket.proofs.Extents.{side-read, side-before}
-use Rattle.ticket.proofs.Laws.{unless-good, Fields, fields-good, nets-good}
+use Rattle.ticket.proofs.Laws.{Fields, nets-each}
 use Rattle.ticket_sides.specs.declared.Cursor.{Cursor}
 use Rattle.problem.specs.declared.Pins.{Pins}
-use Rattle.problem.specs.declared.Problem.{Problem}
 use Rattle.problem.specs.Problem.{pinsIn, shapeOf}
 use Rattle.ticket_sides.specs.Format.{byte, isOn, stands, standingBits, mapBytes, pinNet, valuesFrom, sideNets}
-use Rattle.ticket_sides.specs.Stages.{goOn, headerOf, netsOf, after, northEnd, southEnd, westEnd, eastEnd, endsOf}
+use Rattle.ticket_sides.specs.Stages.{goOn, netsOf, after, northEnd, southEnd, westEnd, eastEnd, endsOf}
 use Rattle.ticket.specs.Read.{pinsAt, problemAt}
 use Rattle.ticket.specs.Steps.{Sited}
 
@@ -37,7 +35,9 @@ module _ (f : ℕ → ℕ) (n : ℕ) where
   entry-all : (P : ℕ → Type 0) → P 0 → ((a : ℕ) → In a n → P (f a)) → (a : ℕ) → P (entry (valuesFrom f 1 n) a)
   entry-all P z h zero = z
   entry-all P z h (suc k) =
-      ⊎-elim (λ le. subst P (sym (entry-values f n (suc k) (omega arith))) (h (suc k) (omega arith))) (λ lt. subst P (sym (entry-past f n (suc k) lt)) z)
+      ⊎-elim
+      (λ le. subst P (sym (entry-values f n (suc k) (omega arith))) (h (suc k) (omega arith)))
+      (λ lt. subst P (sym (entry-past f n (suc k) lt)) z)
       (le-or-lt (suc k) n)
 
 -- nets or empty places, and none past place p
@@ -45,18 +45,14 @@ record NetsUpTo (p : ℕ) (l : List ℕ) : Type 0 where
   small : (a : ℕ) → entry l a ≤ largestNet
   past : (a : ℕ) → p < a → entry l a ≡ 0
 
-nets-small : (s : List ℕ) (k i j : ℕ) → netsOf s i k .refusal .number ≡ 0 → j < k → byte s (i + j) ≤ largestNet
-nets-small s zero i j e h = absurd (omega arith)
-nets-small s (suc k) i zero e h = let q : i + 0 ≡ i = omega arith in rw q (nets-good s k i e .1 .1)
-nets-small s (suc k) i (suc j) e h = let q : i + suc j ≡ i + 1 + j = omega arith in rw q (nets-small s k (i + 1) j (nets-good s k i e .2) (omega arith))
-
-module _ (s : List ℕ) (from p : ℕ) (e : netsOf s (from + mapBytes p) (standingBits s from p) .refusal .number ≡ 0) where
+module _ (s : List ℕ) (from p : ℕ) (e : netsOf 1 s (from + mapBytes p) (standingBits s from p) .refusal .number ≡ 0) where
   pin-small : (i : ℕ) → pinNet s true from p (i + 1) ≤ largestNet
   pin-small i =
       ⊎-elim (λ le. omega (arith, pin-past s true from p (i + 1) (omega arith)))
       (λ lt.
       split (stands s from (i + 1))
-      (λ t. rw (pin-stands s from p i lt t) (nets-small s _ (from + mapBytes p) (standingBits s from i) e (standing-below s from p i lt t)))
+      (λ t. rw (pin-stands s from p i lt t)
+      (nets-each 1 s _ (from + mapBytes p) (standingBits s from i) e (standing-below s from p i lt t) .small))
       (λ t. omega (arith, pin-empty s true from p (i + 1) t)))
       (le-or-lt p i)
 
@@ -64,7 +60,8 @@ module _ (s : List ℕ) (from p : ℕ) (e : netsOf s (from + mapBytes p) (standi
   pin-small-at zero i = absurd (omega arith)
   pin-small-at (suc k) i = rw (← add-one) (pin-small k)
 
-nets-up-to : (s : List ℕ) (on : Bool) (from p : ℕ) → ((a : ℕ) → In a longestSide → pinNet s on from p a ≤ largestNet) → NetsUpTo p (sideNets s on from p)
+nets-up-to : (s : List ℕ) (on : Bool) (from p : ℕ) → ((a : ℕ) → In a longestSide → pinNet s on from p a ≤ largestNet)
+    → NetsUpTo p (sideNets s on from p)
 unfolding sideNets
 nets-up-to s on from p small =
     record {
@@ -87,15 +84,40 @@ found s = pinsAt s (endsOf s)
 
 -- ---- the pins
 
+-- the side's places by byte 2 are those of the problem's grid, or the kind lacks the side
+pub own-places : {kind : ℕ} (n byte2 : ℕ) (side : Side) → Known kind
+    → (hasSide kind side ≡ false) ⊎ (places (upright n (byKind kind 1 1 1 byte2 1) 1) side ≡ places (upright n byte2 1) side)
+own-places n byte2 north k = inr refl
+own-places n byte2 south k = inr refl
+own-places n byte2 west is-row = inl refl
+own-places n byte2 east is-row = inl refl
+own-places n byte2 west is-channel = inl refl
+own-places n byte2 east is-channel = inl refl
+own-places n byte2 west is-two-layer = inl refl
+own-places n byte2 east is-two-layer = inl refl
+own-places n byte2 west is-box = inr refl
+own-places n byte2 east is-box = inr refl
+
 off : (b k : ℕ) → b < 2 ^ k → isOn b k ≡ false
 off b k h = rw (div-eq-of-lt h)
 
-pub header-fields : (s : List ℕ) → headerOf s .refusal .number ≡ 0 → Fields (byte s 0) (byte s 1) (byte s 2) (byte s 3)
-unfolding headerOf
-header-fields s e = fields-good _ _ _ _ (unless-good (leb 4 (length s)) 1 (length s) _ (λ q. omega arith) e .1)
+module _ (s : List ℕ) (header : Fields (byte s 0) (byte s 1) (byte s 2)) (ps : Pins) where
+  wide : {kind : ℕ} → Known kind → byte s 2 ≤ largestByte2 kind → byKind kind 1 1 1 (byte s 2) 1 ≤ longestSide
+  wide is-row h = omega arith
+  wide is-channel h = omega arith
+  wide is-box h = h
+  wide is-two-layer h = omega arith
 
-module _ (s : List ℕ) (header : Fields (byte s 0) (byte s 1) (byte s 2) (byte s 3)) (sides : eastEnd s .refusal .number ≡ 0) where
-  ends : NetsUpTo (byte s 1) (found s .north) × NetsUpTo (byte s 1) (found s .south) × NetsUpTo (byte s 2) (found s .west) × NetsUpTo (byte s 2) (found s .east)
+  pub fits : (side : Side) → places (shapeOf (problemAt s 0 ps)) side ≤ longestSide
+  fits north = header .length .1
+  fits south = header .length .1
+  fits west = wide (known (byte s 0) (header .named)) (header .second .1)
+  fits east = wide (known (byte s 0) (header .named)) (header .second .1)
+
+module _ (s : List ℕ) (header : Fields (byte s 0) (byte s 1) (byte s 2)) (map : byte s 3 ≤ largestSideMap (byte s 0))
+    (sides : eastEnd s .refusal .number ≡ 0) where
+  ends : NetsUpTo (byte s 1) (found s .north) × NetsUpTo (byte s 1) (found s .south) ×
+      NetsUpTo (byte s 2) (found s .west) × NetsUpTo (byte s 2) (found s .east)
   unfolding northEnd southEnd westEnd eastEnd
   ends =
       let w = side-before s _ _ (westEnd s) sides in
@@ -103,13 +125,10 @@ module _ (s : List ℕ) (header : Fields (byte s 0) (byte s 1) (byte s 2) (byte 
       let n = side-before s _ _ (northEnd s) so in
       (side-up-to s _ _ (goOn 4) n, side-up-to s _ _ (northEnd s) so, side-up-to s _ _ (southEnd s) w, side-up-to s _ _ (westEnd s) sides)
 
-  abbrev problem : Problem
-  problem = problemAt s 0 (found s)
-
   abbrev grid : Grid
-  grid = shapeOf problem
+  grid = shapeOf (problemAt s 0 (found s))
 
-  pub small : (side : Side) (a : ℕ) → pinsIn (found s) side a ≤ largestNet
+  small : (side : Side) (a : ℕ) → pinsIn (found s) side a ≤ largestNet
   small north = ends .0 .small
   small south = ends .1 .small
   small west = ends .2 .small
@@ -119,7 +138,8 @@ module _ (s : List ℕ) (header : Fields (byte s 0) (byte s 1) (byte s 2) (byte 
   known-kind = known (byte s 0) (header .named)
 
   -- a side that the kind lacks has no bit in the side map
-  lacking : {kind : ℕ} (side : Side) → Known kind → hasSide kind side ≡ false → byte s 3 ≤ largestSideMap kind → (a : ℕ) → pinsIn (found s) side a ≡ 0
+  lacking : {kind : ℕ} (side : Side) → Known kind → hasSide kind side ≡ false → byte s 3 ≤ largestSideMap kind
+      → (a : ℕ) → pinsIn (found s) side a ≡ 0
   lacking south is-row e h = side-bare s _ _ _ (off (byte s 3) 1 (omega arith))
   lacking west is-row e h = side-bare s _ _ _ (off (byte s 3) 2 (omega arith))
   lacking east is-row e h = side-bare s _ _ _ (off (byte s 3) 3 (omega arith))
@@ -138,21 +158,7 @@ module _ (s : List ℕ) (header : Fields (byte s 0) (byte s 1) (byte s 2) (byte 
   lacking east is-box e h = absurd (true≢false e)
 
   pub bare : (side : Side) → hasSide (byte s 0) side ≡ false → (a : ℕ) → pinsIn (found s) side a ≡ 0
-  bare side e = lacking side known-kind e (header .sides)
-
-  -- the width that the map was read by is the kind's own, or the side is bare
-  upper : {kind : ℕ} (side : Side) → Known kind → (hasSide kind side ≡ false) ⊎
-      (places (upright (byte s 1) (byKind kind 1 1 1 (byte s 2) 1) 1) side ≡ places (upright (byte s 1) (byte s 2) 1) side)
-  upper north k = inr refl
-  upper south k = inr refl
-  upper west is-row = inl refl
-  upper east is-row = inl refl
-  upper west is-channel = inl refl
-  upper east is-channel = inl refl
-  upper west is-two-layer = inl refl
-  upper east is-two-layer = inl refl
-  upper west is-box = inr refl
-  upper east is-box = inr refl
+  bare side e = lacking side known-kind e map
 
   past-map : (side : Side) (a : ℕ) → places (upright (byte s 1) (byte s 2) 1) side < a → pinsIn (found s) side a ≡ 0
   past-map north = ends .0 .past
@@ -160,30 +166,9 @@ module _ (s : List ℕ) (header : Fields (byte s 0) (byte s 1) (byte s 2) (byte 
   past-map west = ends .2 .past
   past-map east = ends .3 .past
 
-  pub past : (side : Side) (a : ℕ) → places grid side < a → pinsIn (found s) side a ≡ 0
-  past side a h = ⊎-elim (λ e. bare side e a) (λ e. past-map side a (subst (λ (x : ℕ). x < a) e h)) (upper side known-kind)
+  past : (side : Side) (a : ℕ) → places grid side < a → pinsIn (found s) side a ≡ 0
+  past side a h =
+      ⊎-elim (λ e. bare side e a) (λ e. past-map side a (subst (λ (x : ℕ). x < a) e h)) (own-places (byte s 1) (byte s 2) side known-kind)
 
-  none : (side : Side) → pinsIn (found s) side 0 ≡ 0
-  none north = refl
-  none south = refl
-  none west = refl
-  none east = refl
-
-  pub inside : (side : Side) (a m : ℕ) → m ≢ 0 → pinsIn (found s) side a ≡ m → In a (places grid side)
-  inside side zero m n e = absurd (n (sym e ∙ none side))
-  inside side (suc a) m n e = ⊎-elim (λ le. (omega arith, le)) (λ lt. absurd (n (sym e ∙ past side (suc a) lt))) (le-or-lt (suc a) (places grid side))
-
-  wide : {kind : ℕ} → Known kind → byte s 2 ≤ largestByte2 kind → byKind kind 1 1 1 (byte s 2) 1 ≤ longestSide
-  wide is-row h = omega arith
-  wide is-channel h = omega arith
-  wide is-box h = h
-  wide is-two-layer h = omega arith
-
-  pub fits : (side : Side) → places grid side ≤ longestSide
-  fits north = header .length .1
-  fits south = header .length .1
-  fits west = wide known-kind (header .second .1)
-  fits east = wide known-kind (header .second .1)
-
-  pub sited : Sited s (endsOf s)
-  sited = record { numbered = small; ends = past; fits = fits }
+  pub sited : Sited s (found s)
+  sited = record { numbered = small; ends = past; fits = fits s header (found s) }

@@ -1,29 +1,25 @@
 -- What the functions that list a ticket's nets answer and ask on the way. No promise of a public call cites it.
 --
---   netList s from k        the k bytes from byte from on, and 0 past them, as 90 numbers
 --   Extent s on from p end  a side of p places that stands (on) has its map and its nets from byte from to byte end of the ticket; one
 --                           that does not has no byte
 --   Extents s e             all four sides, each from the end of the one before
---   Sited s e               the pins of these sides are nets or empty, and none is past its side's end
+--   Sited s ps              the pins are nets or empty, and none is past its side's end, by the sizes that the header says
 --   readingOf r             what was read, apart from the spans
-use Prim.Native.Nat.{ℕ, _+_, _-_, _≤_, _<_}
+use Prim.Native.Nat.{ℕ, _+_, _≤_, _<_}
 use mathlib.Core.Path.{_≡_}
-use mathlib.Core.Bool.{Bool, true, false, cond}
+use mathlib.Core.Bool.{Bool, true, false}
 use mathlib.Core.List.{List}
 use lib.ListN.{length}
-use lib.Dec.{leb}
 use Rattle.terms.specs.Limits.{longestSide, largestNet}
 use Rattle.terms.specs.Kinds.{Side}
 use Rattle.grid.specs.Grid.{places}
+use Rattle.problem.specs.declared.Pins.{Pins}
 use Rattle.problem.specs.Problem.{pinsIn, shapeOf}
-use Rattle.ticket_sides.specs.Format.{byte, isOn, standingBits, mapBytes, valuesFrom}
+use Rattle.ticket_sides.specs.Format.{byte, isOn, standingBits, mapBytes}
 use Rattle.ticket_sides.specs.declared.Ends.{Ends}
-use Rattle.ticket.specs.Read.{pinsAt, problemAt}
+use Rattle.ticket.specs.Read.{problemAt}
 use Rattle.ticket.specs.declared.Parsed.{Parsed}
 use Rattle.ticket.specs.declared.Reading.{Reading}
-
-unfoldable pub netList : List ℕ → ℕ → ℕ → List ℕ
-netList s from k = valuesFrom (λ a. cond (leb a k) (byte s (from + (a - 1))) 0) 1 longestSide
 
 pub record Extent (s : List ℕ) (on : Bool) (from p end : ℕ) : Type 0 where
   pub stands : on ≡ true → end ≡ from + mapBytes p + standingBits s from p
@@ -37,10 +33,10 @@ pub record Extents (s : List ℕ) (e : Ends) : Type 0 where
   pub west : Extent s (isOn (byte s 3) 2) (e .south .at) (byte s 2) (e .west .at)
   pub east : Extent s (isOn (byte s 3) 3) (e .west .at) (byte s 2) (e .east .at)
 
-pub record Sited (s : List ℕ) (e : Ends) : Type 0 where
-  pub numbered : (side : Side) (a : ℕ) → pinsIn (pinsAt s e) side a ≤ largestNet
-  pub ends : (side : Side) (a : ℕ) → places (shapeOf (problemAt s 0 (pinsAt s e))) side < a → pinsIn (pinsAt s e) side a ≡ 0
-  pub fits : (side : Side) → places (shapeOf (problemAt s 0 (pinsAt s e))) side ≤ longestSide
+pub record Sited (s : List ℕ) (ps : Pins) : Type 0 where
+  pub numbered : (side : Side) (a : ℕ) → pinsIn ps side a ≤ largestNet
+  pub ends : (side : Side) (a : ℕ) → places (shapeOf (problemAt s 0 ps)) side < a → pinsIn ps side a ≡ 0
+  pub fits : (side : Side) → places (shapeOf (problemAt s 0 ps)) side ≤ longestSide
 
 abbrev pub readingOf : Parsed → Reading
 readingOf r = record { refusal = r .refusal; problem = r .problem }

@@ -19,10 +19,10 @@ ghost use lib.ListN.{length};
 ghost use mathlib.Core.Bool.{true};
 ghost use Rattle.terms.specs.Limits.{longestSide};
 ghost use Rattle.nets.specs.Tables.{SpansOf};
-ghost use Rattle.ticket_sides.specs.Format.{standingBits, mapBytes, sideNets};
+ghost use Rattle.ticket_sides.specs.Format.{standingBits, mapBytes, netList, sideNets};
 ghost use Rattle.ticket_sides.specs.Steps.{Header};
 ghost use Rattle.ticket.specs.Read.{pinsAt, leftOver, noLone, refusedReading, acceptedReading, problemAt, judged, ticketOf, readOf};
-ghost use Rattle.ticket.specs.Steps.{netList, Extent, Extents, Sited, readingOf};
+ghost use Rattle.ticket.specs.Steps.{Extent, Extents, Sited, readingOf};
 
 // Read accepts no longer list, and one byte more than this of any list tells its whole reading: `longest`, `first-bytes` of proofs/Longest.
 pub const LONGEST_TICKET: usize = 412;
@@ -48,8 +48,8 @@ pub struct Parsed {
     pub spans: Spans,
 }
 
-// The net bytes of a side in rising order of place, and 0 past them.
-fn net_list(ticket: &[u8], from: usize, count: usize) -> [u8; LONGEST_SIDE]
+// `count` net bytes as a side's list, and 0 past them. (For our own crates.)
+pub fn net_list(ticket: &[u8], from: usize, count: usize) -> [u8; LONGEST_SIDE]
     requires { ⌜ (count ≤ longestSide) × (from + count ≤ length (now ticket)) ⌝ }
     ensures { λ r. ⌜ r ≡ netList (now (ticket .entry)) from count ⌝ }
 {
@@ -129,7 +129,8 @@ fn pins_at(ticket: &[u8], ends: Ends) -> Pins
     }
 }
 
-fn left_over(ticket: &[u8], at: usize) -> Cursor
+// Refuses bytes past byte `at`. (For our own crates.)
+pub fn left_over(ticket: &[u8], at: usize) -> Cursor
     ensures { λ r. ⌜ r ≡ leftOver (now (ticket .entry)) at ⌝ }
 {
     unless(ticket.len() <= at, 8, at, go_on(at))
@@ -141,7 +142,8 @@ fn no_lone(lone: usize) -> Cursor
     unless(lone == 0, 9, lone, go_on(0))
 }
 
-fn refused(c: Cursor) -> Parsed
+// (For our own crates.)
+pub fn refused(c: Cursor) -> Parsed
     ensures { λ r. ⌜ (readingOf r ≡ refusedReading c) × (r .refusal ≡ c .refusal) ⌝ }
 {
     let refusal = c.refusal;
@@ -185,13 +187,12 @@ fn accepted(ticket: &[u8], nets: u8, pins: Pins, spans: Spans) -> Parsed
     }
 }
 
-// The spans, and the last test, once all bytes are read.
-fn judged(ticket: &[u8], ends: Ends) -> Parsed
-    requires { ⌜ Header (now ticket) × Extents (now ticket) ends × Sited (now ticket) ends ⌝ }
-    ensures reads { λ r. ⌜ readingOf r ≡ judged (now (ticket .entry)) (pinsAt (now (ticket .entry)) ends) ⌝ }
+// The spans, and the last test, once all bytes are read. (For our own crates.)
+pub fn judged(ticket: &[u8], pins: Pins) -> Parsed
+    requires { ⌜ Header (now ticket) × Sited (now ticket) pins ⌝ }
+    ensures reads { λ r. ⌜ readingOf r ≡ judged (now (ticket .entry)) pins ⌝ }
     ensures spans { λ r. ⌜ (r .refusal .number ≡ 0 → SpansOf (r .problem) (r .spans)) ⌝ }
 {
-    let pins = pins_at(ticket, ends);
     let n = ticket[1] as usize;
     let w = by_kind(ticket[0], 1, 1, 1, ticket[2] as usize, 1);
     let spans = nets::spans_of(&pins.north, &pins.south, &pins.west, &pins.east, n, w);
@@ -232,7 +233,7 @@ pub fn parse_spans(ticket: &[u8]) -> Parsed
     if whole.refusal.number != 0 {
         return refused(whole);
     }
-    judged(ticket, ends)
+    judged(ticket, pins_at(ticket, ends))
 }
 
 // The whole reading, with the pins: for the crates that go on from a good reading.

@@ -70,12 +70,12 @@ sides-back s b r =
     let x = sides-extents s (r .head) refl (r .sides) in
     let own = own-width {kind = byte s 0} (byte s 3) (byte s 2) in
     let kind = known (byte s 0) (r .header .named) in
-    let room = fits s (r .header) (r .sides) in
+    let room = fits s (r .header) (found s) in
     record {
       first = side-back s b _ _ _ (λ t. refl) (room north) (goOn 4) n (x .north);
       second = side-back s b _ _ _ (λ t. refl) (room south) (northEnd s) so (x .south);
-      third = side-back s b _ _ _ (own 2 (omega arith) kind (r .header .sides)) (room west) (southEnd s) w (x .west);
-      fourth = side-back s b _ _ _ (own 3 (omega arith) kind (r .header .sides)) (room east) (westEnd s) (r .sides) (x .east);
+      third = side-back s b _ _ _ (own 2 (omega arith) kind (r .map)) (room west) (southEnd s) w (x .west);
+      fourth = side-back s b _ _ _ (own 3 (omega arith) kind (r .map)) (room east) (westEnd s) (r .sides) (x .east);
     }
 
 map-back : (s : List ℕ) → Read s → Sides s → sideMap (problem s) ≡ byte s 3
@@ -83,9 +83,9 @@ unfolding sideMap sum
 map-back s r q =
     let small = sides-small (known (byte s 0) (r .header .named)) in
     rw (q .first .stands, q .second .stands, q .third .stands, q .fourth .stands)
-    (omega (arith, all-bits (byte s 3) 4 (omega (arith, r .header .sides))))
+    (omega (arith, all-bits (byte s 3) 4 (omega (arith, r .map))))
 
-regrouped : (a b c d e : List ℕ) → a ++ b ++ c ++ d ++ e ≡ a ++ (b ++ (c ++ (d ++ (e ++ []))))
+pub regrouped : (a b c d e : List ℕ) → a ++ b ++ c ++ d ++ e ≡ a ++ (b ++ (c ++ (d ++ (e ++ []))))
 regrouped a b c d e = simp (append-assoc, append-nil)
 
 problem-back : (s : List ℕ) → Read s → Sides s → bytesOf (problem s) ≡ s

@@ -15,7 +15,8 @@ use Rattle.terms.proofs.Laws.{Known, is-row, is-channel, is-box, is-two-layer, 
 use Rattle.problem.specs.declared.Problem.{Problem}
 use Rattle.problem.specs.Problem.{widthOf, Good}
 use Rattle.ticket_sides.specs.Format.{isOn}
-use Rattle.ticket_sides.specs.Stages.{fieldsOf, goOn}
+use Rattle.ticket_sides.specs.Stages.{fieldsOf}
+use Rattle.ticket_sides.specs.declared.Cursor.{Cursor}
 use Rattle.ticket_bytes.specs.Bytes.{hasPins, sideStands, sideMap}
 use Rattle.ticket_bytes.proofs.Expansion.{one-bit}
 
@@ -72,12 +73,9 @@ module _ (q : Problem) (good : Good q) where
       (λ e. sym (of-box (q .kind) 1 1 1 (q .byte2) 1 e))
       (λ ne. absurd (true≢false (sym t ∙ lacking s (no-box ne))))
 
-  pub fields-read : fieldsOf (q .kind) (q .n .0) (q .byte2) (sideMap q) ≡ goOn 4
+  pub fields-read : (rest : Cursor) → fieldsOf (q .kind) (q .n .0) (q .byte2) rest ≡ rest
   unfolding fieldsOf
-  fields-read =
-      rw (
-        good .kind,
-        within-of (q .n .0) _ (good .columns),
-        within-of (q .byte2) _ (good .byte2),
-        le-leb (sideMap q) _ (small-map (known (q .kind) (good .kind)) refl),
-      )
+  fields-read rest = rw (good .kind, within-of (q .n .0) _ (good .columns), within-of (q .byte2) _ (good .byte2))
+
+  pub map-read : leb (sideMap q) (largestSideMap (q .kind)) ≡ true
+  map-read = le-leb (sideMap q) _ (small-map (known (q .kind) (good .kind)) refl)

@@ -18,7 +18,7 @@ use Rattle.ticket.proofs.Laws.{going-on}
 use Rattle.ticket_bytes.specs.Bytes.{sideMap, bytesOn, bytesOf, Sized}
 use Rattle.ticket_bytes.proofs.Parts.{Part, whole, front, back}
 use Rattle.ticket_bytes.proofs.Sides.{side-read}
-use Rattle.ticket_bytes.proofs.Header.{map-bits, width, fields-read}
+use Rattle.ticket_bytes.proofs.Header.{map-bits, width, fields-read, map-read}
 use Rattle.problem.proofs.Pinned.{none-lone}
 
 -- ---- the parts of a ticket
@@ -61,6 +61,20 @@ bytes-state q = record { kind = refl; columns = refl; second = refl; map = refl;
 
 -- ---- the stages
 
+-- the last one, whatever the form that the pins were read from
+pub judged-read : (s : List ℕ) (q : Problem) → Good q → byte s 0 ≡ q .kind → byte s 1 ≡ q .n .0 → byte s 2 ≡ q .byte2
+    → judged s (q .pins) ≡ acceptedReading q
+judged-read s q good kind columns second =
+    let lone : goOn 0 ≡ noLone (loneNet (pinsIn (q .pins))) = ap noLone (sym (none-lone q good)) in
+    going-on _ lone refl
+    ∙ (λ i. acceptedReading (record {
+      kind = kind i;
+      n = record { 0 = columns i };
+      byte2 = second i;
+      nets = sym (good .nets) i;
+      pins = q .pins;
+    }))
+
 -- the byte behind each side
 abbrev northStop : Problem → ℕ
 northStop q = 4 + length (bytesOn q north)
@@ -78,8 +92,8 @@ module _ (s : List ℕ) (q : Problem) (good : Good q) (sized : Sized q) (states 
   header : headerOf s ≡ goOn 4
   unfolding headerOf
   header =
-      rw (le-leb 4 (length s) (omega (arith, states .sides .size)), states .kind, states .columns, states .second, states .map)
-      (fields-read q good)
+      let four = le-leb 4 (length s) (omega (arith, states .sides .size)) in
+      rw (four, states .kind, states .columns, states .second, states .map, map-read q good) (fields-read q good (goOn 4))
 
   standing : (k : ℕ) {b : Bool} → isOn (sideMap q) k ≡ b → b ≡ isOn (byte s 3) k
   standing k e = sym (ap (λ (x : ℕ). isOn x k) (states .map) ∙ e)
@@ -120,18 +134,6 @@ module _ (s : List ℕ) (q : Problem) (good : Good q) (sized : Sized q) (states 
   none-left : leftOver s (eastEnd s .at) ≡ goOn (eastEnd s .at)
   none-left = rw (le-leb (length s) (eastEnd s .at) (omega (arith, states .sides .size, ap (λ (c : Cursor). c .at) (east-read .0))))
 
-  judged-read : judged s (q .pins) ≡ acceptedReading q
-  judged-read =
-      let lone : goOn 0 ≡ noLone (loneNet (pinsIn (q .pins))) = ap noLone (sym (none-lone q good)) in
-      going-on _ lone refl
-      ∙ (λ i. acceptedReading (record {
-        kind = states .kind i;
-        n = record { 0 = states .columns i };
-        byte2 = states .second i;
-        nets = sym (good .nets) i;
-        pins = q .pins;
-      }))
-
   accepted-read : ticketOf s ≡ acceptedReading q
   unfolding ticketOf
   accepted-read =
@@ -139,7 +141,7 @@ module _ (s : List ℕ) (q : Problem) (good : Good q) (sized : Sized q) (states 
       ∙ going-on _ (sym (east-read .0)) refl
       ∙ going-on _ (sym none-left) refl
       ∙ ap (judged s) pins-read
-      ∙ judged-read
+      ∙ judged-read s q good (states .kind) (states .columns) (states .second)
 
 pub read-back : (q : Problem) → Good q → Sized q → ticketOf (bytesOf q) ≡ acceptedReading q
 read-back q good sized = accepted-read (bytesOf q) q good sized (bytes-state q)

@@ -19,10 +19,10 @@ use Rattle.terms.specs.Limits.{longestSide}
 use Rattle.grid.specs.Legal.{entry}
 use Rattle.ticket_sides.proofs.Flags.{le-or-lt}
 use Rattle.ticket_sides.specs.Format.{byte, isOn, stands, standingBits, mapBytes, goodMap, pinNet, sideNets}
-use Rattle.ticket_sides.specs.Stages.{netsOf, after}
+use Rattle.ticket_sides.specs.Stages.{after}
 use Rattle.ticket_sides.specs.declared.Cursor.{Cursor}
 use Rattle.ticket.specs.Steps.{Extent}
-use Rattle.ticket.proofs.Laws.{nets-good}
+use Rattle.ticket.proofs.Laws.{NetByte, nets-each}
 use Rattle.ticket.proofs.Filled.{entry-values}
 use Rattle.ticket.proofs.Placed.{standing-one, standing-none, standing-below, pin-stands, pin-empty, pin-off}
 use Rattle.ticket.proofs.Extents.{side-read}
@@ -32,22 +32,12 @@ use Rattle.ticket_bytes.proofs.ListBack.{values-drop}
 
 -- ---- what a side that was passed says
 
--- its net bytes are there, and none is 0
-nets-there : (s : List ℕ) (k i j : ℕ) → netsOf s i k .refusal .number ≡ 0 → j < k → (i + j < length s) × (1 ≤ byte s (i + j))
-nets-there s zero i j e h = absurd (omega arith)
-nets-there s (suc k) i j e h = let g = nets-good s k i e in here j h (g .0) (g .1 .0) (λ x. nets-there s k (i + 1) x (g .2))
-  where
-    here : (j : ℕ) → j < suc k → i < length s → 1 ≤ byte s i → ((x : ℕ) → x < k → (i + 1 + x < length s) × (1 ≤ byte s (i + 1 + x)))
-        → (i + j < length s) × (1 ≤ byte s (i + j))
-    here zero h there one later = rw add-zero (there, one)
-    here (suc x) h there one later = let q : i + suc x ≡ i + 1 + x = omega arith in rw q (later x (omega arith))
-
 -- a side whose map starts at byte from of s
 record Passed (s : List ℕ) (from p : ℕ) : Type 0 where
   map : from + mapBytes p ≤ length s
   some : 1 ≤ standingBits s from p
   spare : standingBits s from (8 * mapBytes p) ≡ standingBits s from p
-  nets : (j : ℕ) → j < standingBits s from p → (from + mapBytes p + j < length s) × (1 ≤ byte s (from + mapBytes p + j))
+  nets : (j : ℕ) → j < standingBits s from p → NetByte 1 s (from + mapBytes p + j)
 
 side-passed : (s : List ℕ) (p : ℕ) (c : Cursor) → after s true p c .refusal .number ≡ 0 → Passed s (c .at) p
 unfolding goodMap
@@ -58,7 +48,7 @@ side-passed s p c e =
       map = r .map;
       some = leb-true _ _ (g .0);
       spare = eqb-true _ _ (g .1);
-      nets = λ j. nets-there s (standingBits s (c .at) p) (c .at + mapBytes p) j (r .nets);
+      nets = λ j. nets-each 1 s (standingBits s (c .at) p) (c .at + mapBytes p) j (r .nets);
     }
 
 -- ---- a side that stands
@@ -70,7 +60,7 @@ module _ (s : List ℕ) (from p : ℕ) (r : Passed s from p) (f : ℕ → ℕ) (
   filled : (i : ℕ) → i < p → isFilled f (i + 1) ≡ stands s from (i + 1)
   filled i h =
       split (stands s from (i + 1))
-      (λ t. le-leb 1 (f (i + 1)) (rw (net-at i h t) (r .nets (standingBits s from i) (standing-below s from p i h t) .1)) ∙ sym t)
+      (λ t. le-leb 1 (f (i + 1)) (rw (net-at i h t) (r .nets (standingBits s from i) (standing-below s from p i h t) .enough)) ∙ sym t)
       (λ t. lt-leb 1 (f (i + 1)) (omega (arith, same (i + 1) (omega arith), pin-empty s true from p (i + 1) t)) ∙ sym t)
 
   filled-at : (a : ℕ) → In a p → isFilled f a ≡ stands s from a
@@ -131,7 +121,7 @@ module _ (s : List ℕ) (from p : ℕ) (r : Passed s from p) (f : ℕ → ℕ) (
   net-drop i h =
       split (stands s from (i + 1))
       (λ t.
-      let there = r .nets (standingBits s from i) (standing-below s from p i h t) .0 in
+      let there = r .nets (standingBits s from i) (standing-below s from p i h t) .there in
       let one = standing-one s from i t in
       let next : from + mapBytes p + standingBits s from (i + 1) ≡ suc (from + mapBytes p + standingBits s from i) = omega arith in
       rw (filled i h, t, net-at i h t, next) (sym (drop-cons s _ 0 there)))

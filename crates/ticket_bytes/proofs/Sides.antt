@@ -15,7 +15,7 @@ use Rattle.counting.specs.Counting.{In, bit, count}
 use Rattle.counting.proofs.Sums.{split, bit-one, sum-past, sum-part}
 use Rattle.counting.proofs.Counts.{some-in, some-of, count-same}
 use Rattle.terms.specs.Limits.{largestNet, longestSide}
-use Rattle.terms.proofs.Laws.{within-of}
+use Rattle.ticket_sides.proofs.Laws.{net-of}
 use Rattle.grid.specs.Legal.{entry}
 use Rattle.ticket_sides.proofs.Flags.{le-or-lt}
 use Rattle.ticket_sides.specs.Format.{byte, isOn, stands, standingBits, mapBytes, goodMap, pinNet, sideNets}
@@ -34,16 +34,17 @@ count-to t p top h =
     sym (sum-past (λ a. bit (leb a p && t a)) p top h (λ a past. rw (lt-leb a p past)))
     ∙ count-same (λ a. leb a p && t a) t p (λ a i. rw (le-leb a p (i .1)))
 
-nets-read : (s : List ℕ) (k i : ℕ) → i + k ≤ length s → ((j : ℕ) → j < k → In (byte s (i + j)) largestNet) → netsOf s i k ≡ goOn (i + k)
+pub nets-read : (least : ℕ) (s : List ℕ) (k i : ℕ) → i + k ≤ length s
+    → ((j : ℕ) → j < k → (least ≤ byte s (i + j)) × (byte s (i + j) ≤ largestNet)) → netsOf least s i k ≡ goOn (i + k)
 unfolding netsOf
-nets-read s zero i h each = ap goOn (sym (add-zero i))
-nets-read s (suc k) i h each =
-    let now : In (byte s i) largestNet = subst (λ (j : ℕ). In (byte s j) largestNet) (add-zero i) (each 0 (omega arith)) in
+nets-read least s zero i h each = ap goOn (sym (add-zero i))
+nets-read least s (suc k) i h each =
+    let now = subst (λ (j : ℕ). (least ≤ byte s j) × (byte s j ≤ largestNet)) (add-zero i) (each 0 (omega arith)) in
     let next : i + 1 + k ≡ i + suc k = omega arith in
-    rw (lt-ltb i (length s) (omega arith), within-of (byte s i) largestNet now)
-    (nets-read s k (i + 1) (omega arith) (λ j l.
+    rw (lt-ltb i (length s) (omega arith), net-of least (byte s i) now)
+    (nets-read least s k (i + 1) (omega arith) (λ j l.
     let e : i + suc j ≡ i + 1 + j = omega arith in
-    subst (λ (j : ℕ). In (byte s j) largestNet) e (each (suc j) (omega arith))) ∙ ap goOn next)
+    subst (λ (j : ℕ). (least ≤ byte s j) × (byte s j ≤ largestNet)) e (each (suc j) (omega arith))) ∙ ap goOn next)
 
 -- ---- a side that stands
 
@@ -98,7 +99,7 @@ module _ (s : List ℕ) (f : ℕ → ℕ) (p from : ℕ) (any : hasPins f p ≡ 
       let many : length (netsTo f p) ≡ k = length-nets f p in
       let end : from + mapBytes p + k ≡ from + length (sideBytes f p) = omega (arith, side-length f p any) in
       rw (le-leb (from + mapBytes p) (length s) (omega (arith, nets .room)), good-map, standing p (omega arith))
-      (nets-read s k (from + mapBytes p) (omega (arith, nets .room)) (λ j l.
+      (nets-read 1 s k (from + mapBytes p) (omega (arith, nets .room)) (λ j l.
       let less : j < length (netsTo f p) = omega arith in
       rw (nets .here j less) (net-in f small p j less)) ∙ ap goOn end)
 

@@ -12,6 +12,8 @@
 --   pinNet s on from p a the net of place a: "one net number, 1 to 180, for each standing bit, in rising order of place", after the map; 0
 --                        where the place is empty or the side does not stand (on)
 --   valuesFrom f i k     f i, f (i + 1), .., k of them
+--   sideList f p         a side's list of 90 numbers: f at its places 1 to p, and 0 past them
+--   netList s from k     the k bytes from byte from on as such a list
 --   sideNets s on from p the nets of a side's places as 90 numbers
 use Prim.Native.Nat.{ℕ, zero, suc, _+_, _-_, _*_, _/_, _%_, _^_}
 use mathlib.Core.Bool.{Bool, cond, _&&_}
@@ -48,6 +50,12 @@ pinNet s on from p a = cond (on && leb a p && stands s from a) (byte s (from + m
 unfoldable pub valuesFrom : (ℕ → ℕ) → ℕ → ℕ → List ℕ
 valuesFrom f i zero = []
 valuesFrom f i (suc k) = f i ∷ valuesFrom f (suc i) k
+
+unfoldable pub sideList : (ℕ → ℕ) → ℕ → List ℕ
+sideList f p = valuesFrom (λ a. cond (leb a p) (f a) 0) 1 longestSide
+
+abbrev pub netList : List ℕ → ℕ → ℕ → List ℕ
+netList s from k = sideList (λ a. byte s (from + (a - 1))) k
 
 unfoldable pub sideNets : List ℕ → Bool → ℕ → ℕ → List ℕ
 sideNets s on from p = valuesFrom (pinNet s on from p) 1 longestSide

@@ -2,10 +2,12 @@
 --
 --   stop k p              a refusal, where reading ends
 --   goOn i                nothing is refused yet; byte i is read next
---   fieldsOf, headerOf s  the first four bytes: "1, fewer than 4 bytes (place: the ticket's length). 2, kind (0). 3, n (1). 4, byte 2
---                         (2). 5, side map (3)."
---   netsOf s i k          k net bytes from byte i on: "1 again, a byte needed and missing (the ticket's length)", "7, net number 0 or
---                         above 180 (its byte)"
+--   fieldsOf kind n byte2 rest
+--                         "2, kind (0). 3, n (1). 4, byte 2 (2)."; then what rest says
+--   headerOf s            the first four bytes: "1, fewer than 4 bytes (place: the ticket's length)", 2 to 4, "5, side map (3)."
+--   isNet least b         the byte b is one of the numbers from least to 180
+--   netsOf least s i k    k net bytes from byte i on: "1 again, a byte needed and missing (the ticket's length)", "7, net number 0 or
+--                         above 180 (its byte)"; in a ticket the least number is 1
 --   sideOf s from p       a side of p places: its map, then its nets; "6, a map without bits or with a spare bit (first byte of the map)";
 --                         "A map's bytes must all be present before 6 is judged."
 --   after s on p c        the next side after c, read where it stands (on)
@@ -31,31 +33,37 @@ goOn i = record { refusal = refusal 0 0; at = i }
 
 -- ---- the header
 
-unfoldable pub fieldsOf : ℕ → ℕ → ℕ → ℕ → Cursor
-fieldsOf kind n byte2 map =
+unfoldable pub fieldsOf : ℕ → ℕ → ℕ → Cursor → Cursor
+fieldsOf kind n byte2 rest =
     unless (isKind kind) (stop 2 0)
     (unless (within n longestSide) (stop 3 1)
     (unless (within byte2 (largestByte2 kind)) (stop 4 2)
-    (unless (leb map (largestSideMap kind)) (stop 5 3)
-    (goOn 4))))
+    rest))
 
 unfoldable pub headerOf : List ℕ → Cursor
-headerOf s = unless (leb 4 (length s)) (stop 1 (length s)) (fieldsOf (byte s 0) (byte s 1) (byte s 2) (byte s 3))
+headerOf s =
+    unless (leb 4 (length s)) (stop 1 (length s))
+    (fieldsOf (byte s 0) (byte s 1) (byte s 2)
+    (unless (leb (byte s 3) (largestSideMap (byte s 0))) (stop 5 3)
+    (goOn 4)))
 
 -- ---- the sides, in byte order
 
-unfoldable pub netsOf : List ℕ → ℕ → ℕ → Cursor
-netsOf s i zero = goOn i
-netsOf s i (suc k) =
+abbrev pub isNet : ℕ → ℕ → Bool
+isNet least b = leb least b && leb b largestNet
+
+unfoldable pub netsOf : ℕ → List ℕ → ℕ → ℕ → Cursor
+netsOf least s i zero = goOn i
+netsOf least s i (suc k) =
     unless (ltb i (length s)) (stop 1 (length s))
-    (unless (within (byte s i) largestNet) (stop 7 i)
-    (netsOf s (i + 1) k))
+    (unless (isNet least (byte s i)) (stop 7 i)
+    (netsOf least s (i + 1) k))
 
 unfoldable pub sideOf : List ℕ → ℕ → ℕ → Cursor
 sideOf s from p =
     unless (leb (from + mapBytes p) (length s)) (stop 1 (length s))
     (unless (goodMap s from p) (stop 6 from)
-    (netsOf s (from + mapBytes p) (standingBits s from p)))
+    (netsOf 1 s (from + mapBytes p) (standingBits s from p)))
 
 unfoldable pub after : List ℕ → Bool → ℕ → Cursor → Cursor
 after s on p c = cond (accepted (c .refusal) && on) (sideOf s (c .at) p) c

@@ -16,7 +16,7 @@ ghost use mathlib.Core.Bool.{true};
 ghost use Rattle.terms.specs.Limits.{longestSide};
 ghost use Rattle.terms.specs.Refusals.{unless};
 ghost use Rattle.ticket_sides.specs.Format.{isOn, standingBits, mapBytes};
-ghost use Rattle.ticket_sides.specs.Stages.{stop, goOn, fieldsOf, headerOf, netsOf, sideOf, after, endsOf};
+ghost use Rattle.ticket_sides.specs.Stages.{stop, goOn, fieldsOf, headerOf, isNet, netsOf, sideOf, after, endsOf};
 ghost use Rattle.ticket_sides.specs.Steps.{mapCount, Header};
 
 // Where reading stands: nothing refused and the next byte to read, or a refusal.
@@ -46,7 +46,8 @@ pub fn go_on(at: usize) -> Cursor
     }
 }
 
-fn stop(number: u8, place: usize) -> Cursor
+// A refusal: reading ends. (For our own crates.)
+pub fn stop(number: u8, place: usize) -> Cursor
     ensures { λ r. ⌜ r ≡ stop number place ⌝ }
 {
     Cursor {
@@ -62,12 +63,11 @@ pub fn unless(test: bool, number: u8, place: usize, rest: Cursor) -> Cursor
     if test { rest } else { stop(number, place) }
 }
 
-// The last test of the header comes first here, so that the first one has the last word.
-fn fields(kind: u8, n: u8, byte2: u8, map: u8) -> Cursor
-    ensures { λ r. ⌜ r ≡ fieldsOf kind n byte2 map ⌝ }
+// The last test comes first here, so that the first one has the last word. (For our own crates.)
+pub fn fields(kind: u8, n: u8, byte2: u8, rest: Cursor) -> Cursor
+    ensures { λ r. ⌜ r ≡ fieldsOf kind n byte2 rest ⌝ }
 {
-    let c = unless(wide(map) <= largest_side_map(kind), 5, 3, go_on(4));
-    let c = unless(is_within(wide(byte2), largest_byte2(kind)), 4, 2, c);
+    let c = unless(is_within(wide(byte2), largest_byte2(kind)), 4, 2, rest);
     let c = unless(is_within(wide(n), LONGEST_SIDE), 3, 1, c);
     unless(is_kind(kind), 2, 0, c)
 }
@@ -80,7 +80,9 @@ pub fn header(ticket: &[u8]) -> Cursor
     if size < 4 {
         return stop(1, size);
     }
-    fields(ticket[0], ticket[1], ticket[2], ticket[3])
+    let kind = ticket[0];
+    let rest = unless(wide(ticket[3]) <= largest_side_map(kind), 5, 3, go_on(4));
+    fields(kind, ticket[1], ticket[2], rest)
 }
 
 // Whether bit k of b stands. (For our own crates.)
@@ -127,24 +129,31 @@ fn map_count(ticket: &[u8], at: usize, places: usize) -> usize
     ones_in(ticket, at, bytes)
 }
 
+// Whether a byte is a net number, `least` being the least one.
+fn is_net(least: u8, b: u8) -> bool
+    ensures { λ r. ⌜ r ≡ isNet least b ⌝ }
+{
+    both(least <= b, wide(b) <= LARGEST_NET)
+}
+
 // Whether `count` bytes from byte `from` on are all nets. It has no way out before the end, so that many bytes are tested at once.
-fn all_nets(ticket: &[u8], from: usize, count: usize) -> bool
-    requires { ⌜ (count ≤ 96) × (from + count ≤ length (now ticket)) ⌝ }
-    ensures { λ r. ⌜ (r ≡ true → netsOf (now (ticket .entry)) from count ≡ goOn (from + count)) ⌝ }
+fn all_nets(ticket: &[u8], least: u8, from: usize, count: usize) -> bool
+    requires { ⌜ from + count ≤ length (now ticket) ⌝ }
+    ensures { λ r. ⌜ (r ≡ true → netsOf least (now (ticket .entry)) from count ≡ goOn (from + count)) ⌝ }
 {
     let mut good = true;
     let mut i: usize = 0;
     while i < count {
-        good = both(good, is_within(wide(ticket[from + i]), LARGEST_NET));
+        good = both(good, is_net(least, ticket[from + i]));
         i += 1;
     }
     good
 }
 
 // Net by net, so that the first bad one is found.
-fn nets(ticket: &[u8], from: usize, count: usize) -> Cursor
-    requires { ⌜ (count ≤ 96) × (from ≤ length (now ticket)) ⌝ }
-    ensures meets { λ r. ⌜ r ≡ netsOf (now (ticket .entry)) from count ⌝ }
+fn nets(ticket: &[u8], least: u8, from: usize, count: usize) -> Cursor
+    requires { ⌜ from ≤ length (now ticket) ⌝ }
+    ensures meets { λ r. ⌜ r ≡ netsOf least (now (ticket .entry)) from count ⌝ }
     ensures inside { λ r. ⌜ r .at ≤ length (now (ticket .entry)) ⌝ }
 {
     let mut at = from;
@@ -153,7 +162,7 @@ fn nets(ticket: &[u8], from: usize, count: usize) -> Cursor
         if ticket.len() <= at {
             return stop(1, ticket.len());
         }
-        if !is_within(wide(ticket[at]), LARGEST_NET) {
+        if !is_net(least, ticket[at]) {
             return stop(7, at);
         }
         at += 1;
@@ -162,18 +171,19 @@ fn nets(ticket: &[u8], from: usize, count: usize) -> Cursor
     go_on(at)
 }
 
-fn net_bytes(ticket: &[u8], from: usize, count: usize) -> Cursor
-    requires { ⌜ (count ≤ 96) × (from ≤ length (now ticket)) ⌝ }
-    ensures meets { λ r. ⌜ r ≡ netsOf (now (ticket .entry)) from count ⌝ }
+// Net bytes, `least` being the least number. (For our own crates.)
+pub fn net_bytes(ticket: &[u8], least: u8, from: usize, count: usize) -> Cursor
+    requires { ⌜ from ≤ length (now ticket) ⌝ }
+    ensures meets { λ r. ⌜ r ≡ netsOf least (now (ticket .entry)) from count ⌝ }
     ensures inside { λ r. ⌜ r .at ≤ length (now (ticket .entry)) ⌝ }
 {
     if ticket.len() - from < count {
-        return nets(ticket, from, count);
+        return nets(ticket, least, from, count);
     }
-    if all_nets(ticket, from, count) {
+    if all_nets(ticket, least, from, count) {
         return go_on(from + count);
     }
-    nets(ticket, from, count)
+    nets(ticket, least, from, count)
 }
 
 // A side whose map starts at byte `at`.
@@ -190,7 +200,7 @@ fn side(ticket: &[u8], at: usize, places: usize) -> Cursor
     if count == 0 {
         return stop(6, at);
     }
-    net_bytes(ticket, at + bytes, count)
+    net_bytes(ticket, 1, at + bytes, count)
 }
 
 // The next side, read where it stands and nothing is refused before it.

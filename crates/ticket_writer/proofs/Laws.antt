@@ -1,9 +1,8 @@
 -- The definitions of a ticket's bytes as loops over places pass them, one place or byte more at a time.
-use Prim.Native.Nat.{ℕ, zero, suc, _+_, _-_, _*_, _^_, _≤_, _<_}
-use mathlib.Core.Path.{_≡_, refl, sym, ap, _∙_, subst}
+use Prim.Native.Nat.{ℕ, _+_, _-_, _*_, _^_, _≤_, _<_}
+use mathlib.Core.Path.{_≡_, refl, ap, _∙_, subst}
 use mathlib.Core.Bool.{Bool, _&&_}
 use mathlib.Core.List.{List, [], _∷_, _++_, append-nil}
-use native.Mathlib.Nat.{add-zero, zero-add, add-suc, suc-add}
 use native.Mathlib.Numerals.{add-one}
 use native.Mathlib.Omega.{arith}
 use lib.Dec.{leb}
@@ -19,7 +18,6 @@ use Rattle.problem.specs.declared.Problem.{Problem}
 use Rattle.problem.specs.Problem.{pinsIn, widthOf}
 use Rattle.output.specs.declared.Output.{Output}
 use Rattle.output.specs.Building.{Says}
-use Rattle.ticket_sides.specs.Format.{valuesFrom}
 use Rattle.ticket_bytes.specs.Bytes.{isFilled, hasPins, netsTo, sideBytes, sideMap, bytesOf}
 
 pub entry-next : (l : List ℕ) (i : ℕ) → entry l (i + 1) ≡ getD l i 0
@@ -60,22 +58,6 @@ module _ (l : List ℕ) (i : ℕ) where
 pub nets-none : (f : ℕ → ℕ) → netsTo f 0 ≡ []
 unfolding netsTo
 nets-none f = refl
-
--- ---- a list of values, one more
-
-pub values-none : (f : ℕ → ℕ) (i : ℕ) → valuesFrom f i 0 ≡ []
-unfolding valuesFrom
-values-none f i = refl
-
-values-snoc : (f : ℕ → ℕ) (i k : ℕ) → valuesFrom f i (suc k) ≡ valuesFrom f i k ++ (f (i + k) ∷ [])
-unfolding valuesFrom
-values-snoc f i zero = ap (λ (x : ℕ). f x ∷ []) (sym (add-zero i))
-values-snoc f i (suc k) =
-    ap (λ (l : List ℕ). f i ∷ l)
-    (values-snoc f (suc i) k ∙ ap (λ (x : ℕ). valuesFrom f (suc i) k ++ (f x ∷ [])) (suc-add i k ∙ sym (add-suc i k)))
-
-pub values-more : (f : ℕ → ℕ) (k : ℕ) {v : ℕ} → v ≡ f k → valuesFrom f 0 (k + 1) ≡ valuesFrom f 0 k ++ (v ∷ [])
-values-more f k e = rw (add-one k) (values-snoc f 0 k ∙ ap (λ (x : ℕ). valuesFrom f 0 k ++ (x ∷ [])) (ap f (zero-add k) ∙ sym e))
 
 -- ---- the whole ticket
 

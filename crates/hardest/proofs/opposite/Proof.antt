@@ -4,9 +4,8 @@ use mathlib.Core.Path.{ap}
 use native.Mathlib.Omega.{arith}
 use borrow.Author.Needs.{needs}
 use Rattle.terms.specs.Limits.{longestSide}
-use Rattle.ticket.proofs.Filled.{Filled, filled-none}
+use Rattle.ticket.proofs.Filled.{Filled, filled-none, upTo, fill-more, fill-end}
 use Rattle.hardest_law.specs.Box.{rotated}
-use Rattle.hardest.proofs.Lists.{upTo, fill-more, fill-end}
 use Rattle.hardest.proofs.opposite.Statement.{statement}
 use Rattle.hardest.proofs.opposite.Tie as tie
 

@@ -4,8 +4,7 @@ use mathlib.Core.Path.{refl}
 use native.Mathlib.Omega.{arith}
 use borrow.Author.Needs.{needs}
 use Rattle.terms.specs.Limits.{longestSide}
-use Rattle.ticket.proofs.Filled.{Filled, filled-none}
-use Rattle.hardest.proofs.Lists.{upTo, fill-more, fill-end}
+use Rattle.ticket.proofs.Filled.{Filled, filled-none, upTo, fill-more, fill-end}
 use Rattle.hardest.proofs.rising.Statement.{statement}
 use Rattle.hardest.proofs.rising.Tie as tie
 

@@ -1,5 +1,5 @@
--- `ticket::side_list` meets its contract: a side that does not stand is empty, one that is full lies as it is listed, any other has its nets put at their
--- places.
+-- `ticket::side_list` meets its contract: a side that does not stand is empty, one that is full lies as it is listed, any other has its
+-- nets put at their places.
 use Prim.Native.Nat.{_+_, _-_}
 use mathlib.Core.Bool.{Bool}
 use mathlib.Core.Path.{_≡_, sym, ap, _∙_}
@@ -7,8 +7,7 @@ use native.Mathlib.Omega.{arith}
 use denote.Ref.{now}
 use borrow.Author.Tests.{not-true, not-false}
 use borrow.Author.Needs.{needs}
-use Rattle.ticket_sides.specs.Format.{standingBits, mapBytes, pinNet, sideNets}
-use Rattle.ticket.specs.Steps.{netList}
+use Rattle.ticket_sides.specs.Format.{standingBits, mapBytes, pinNet, netList, sideNets}
 use Rattle.ticket_sides.proofs.Bits.{standing-le}
 use Rattle.ticket.proofs.Placed.{pin-off, full-list}
 use Rattle.ticket.proofs.Filled.{filled-none, filled-end}
@@ -27,7 +26,8 @@ add-from-2 : tie.Need-add-from-2
 add-from-2 c = omega (arith, c .before .before .pre .1 .start, c .before .before .pre .1 .size)
 
 -- the side stands: it ends past its map and its nets
-end : (c : tie.Else1) → let a = c .before .before .args in a .end ≡ a .at + mapBytes (a .places) + standingBits (now (a .ticket)) (a .at) (a .places)
+end : (c : tie.Else1) → let a = c .before .before .args in
+    a .end ≡ a .at + mapBytes (a .places) + standingBits (now (a .ticket)) (a .at) (a .places)
 end c = c .before .before .pre .1 .stands (not-false (c .before .before .args .stands) (c .if1 .left))
 
 sub-count : tie.Need-sub-count
@@ -63,7 +63,8 @@ returns-3 : tie.Need-returns-3
 returns-3 c =
     let c3 = c .before .before .before in
     let a = c3 .before .before .args in
-    c .side-nets .ensures ∙ ap (λ (b : Bool). sideNets (now (a .ticket)) b (a .at) (a .places)) (sym (not-false (a .stands) (c3 .if1 .left)))
+    c .side-nets .ensures
+    ∙ ap (λ (b : Bool). sideNets (now (a .ticket)) b (a .at) (a .places)) (sym (not-false (a .stands) (c3 .if1 .left)))
 
 pub side-list-spec : {M : Type 1} → statement M
 side-list-spec =

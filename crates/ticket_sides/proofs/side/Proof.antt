@@ -6,7 +6,7 @@ use lib.ListN.{length}
 use denote.Ref.{now}
 use borrow.Author.Tests.{le-leb, lt-leb}
 use borrow.Author.Needs.{needs}
-use Rattle.ticket_sides.proofs.Bits.{count-good, count-bad, standing-le}
+use Rattle.ticket_sides.proofs.Bits.{count-good, count-bad}
 use Rattle.ticket_sides.proofs.Laws.{at-refused}
 use Rattle.ticket_sides.specs.Stages.{sideOf, netsOf}
 use Rattle.ticket_sides.specs.Format.{mapBytes}
@@ -35,7 +35,7 @@ net-bytes-requires c κs =
     let s = now (a .ticket) in
     let k = c .before .map-count .ensures in
     let good = count-good s (a .at) (a .places) (λ q. c .if2 .left (k ∙ q)) in
-    (omega (arith, standing-le s (a .at) (a .places), good .1), omega arith)
+    omega arith
 
 returns-3 : tie.Need-returns-3
 unfolding sideOf
@@ -45,7 +45,8 @@ returns-3 c =
     let fits = le-leb (a .at + mapBytes (a .places)) (length s) (omega arith) in
     let k = c .before .before .map-count .ensures in
     let good = count-good s (a .at) (a .places) (λ q. c .before .if2 .left (k ∙ q)) in
-    (simp (fits, good .0) (c .net-bytes .ensures .0 ∙ ap (netsOf s (a .at + mapBytes (a .places))) (k ∙ good .1)), c .net-bytes .ensures .1)
+    let nets = c .net-bytes .ensures in
+    (simp (fits, good .0) (nets .0 ∙ ap (netsOf 1 s (a .at + mapBytes (a .places))) (k ∙ good .1)), nets .1)
 
 pub side-spec : {M : Type 1} → statement M
 side-spec =

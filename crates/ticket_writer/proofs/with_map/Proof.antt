@@ -1,6 +1,7 @@
 -- `ticket_writer::with_map` meets its contract: what is added are the first j bytes of the map.
 use Prim.Native.Nat.{_+_, _-_, _≤_}
-use mathlib.Core.Path.{_≡_, sym}
+use mathlib.Core.Path.{_≡_, sym, ap, _∙_}
+use native.Mathlib.Nat.{zero-add}
 use native.Mathlib.Omega.{arith}
 use lib.ListN.{length, length-set}
 use denote.Ref.{now}
@@ -9,8 +10,8 @@ use Rattle.grid.specs.Legal.{entry}
 use Rattle.output.specs.Building.{mostOutput, Adds}
 use Rattle.output.proofs.Laws.{adds-none, adds-one, adds-adds, adds-as}
 use Rattle.ticket_sides.specs.Format.{mapBytes, valuesFrom}
+use Rattle.ticket.proofs.Filled.{values-none, values-more}
 use Rattle.ticket_bytes.specs.Bytes.{mapByte}
-use Rattle.ticket_writer.proofs.Laws.{values-none, values-more}
 use Rattle.ticket_writer.proofs.with_map.Statement.{statement}
 use Rattle.ticket_writer.proofs.with_map.Tie as tie
 
@@ -31,11 +32,12 @@ array-write-bytes c = let l = c .before .before .loop in omega (arith, l .inv .1
 loop-again : tie.Need-loop-again Inv-loop μ-loop
 loop-again c =
     let l = c .before .before .loop in
-    let a = c .before .before .before .before .args in (
+    let a = c .before .before .before .before .args in
+    let f = mapByte (entry (now (a .nets))) (a .places) in (
       omega arith,
       omega (arith, l .inv .1),
       simp length-set (l .inv .2),
-      adds-as (sym (values-more (mapByte (entry (now (a .nets))) (a .places)) (l .j) (c .map-byte .ensures)))
+      adds-as (sym (values-more f 0 (l .j) (c .map-byte .ensures ∙ ap f (sym (zero-add (l .j))))))
           (adds-adds (l .inv .3) (adds-one (record { bytes = l .bytes; used = l .used }) _ (omega (arith, l .inv .1, l .inv .2)))),
     )
 
