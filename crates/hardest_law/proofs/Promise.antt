@@ -3,14 +3,12 @@ use Prim.Native.Nat.{ℕ, _+_, _≤_}
 use mathlib.Core.Path.{_≡_, refl, sym, ap, ap₂, _∙_, subst}
 use mathlib.Core.Logic.{_≢_}
 use mathlib.Core.Bool.{true, false, and-eq-true-iff}
-use mathlib.Core.List.{List, _++_}
+use mathlib.Core.List.{List}
 use native.Mathlib.Omega.{arith}
 use lib.Dec.{leb}
-use lib.ListN.{length, take, drop}
-use lib.Seq.{take-append-seam, drop-append-seam}
+use lib.ListN.{length}
 use borrow.Author.Tests.{eq-eqb}
 use Rattle.counting.specs.Counting.{In}
-use Rattle.counting.proofs.Sums.{split}
 use Rattle.terms.specs.Kinds.{Side, box, layersFor}
 use Rattle.terms.specs.Limits.{longestSide, within}
 use Rattle.terms.specs.Refusals.{refusal, unless}
@@ -26,7 +24,8 @@ use Rattle.ticket.specs.Read.{acceptedReading, ticketOf, problemOf}
 use Rattle.ticket.proofs.Good.{read-good}
 use Rattle.survey.specs.Survey.{surveyed, surveyOf}
 use Rattle.output.specs.declared.Written.{Written}
-use Rattle.output.specs.Writing.{writtenOver, refusedWriting, writtenFor, Wrote}
+use Rattle.output.specs.Writing.{refusedWriting, writtenFor, writtenIn, Wrote}
+use Rattle.output.proofs.Laws.{wrote-untouched, wrote-past, wrote-front}
 use Rattle.ticket_bytes.specs.Bytes.{bytesOf}
 use Rattle.ticket_bytes.proofs.ReadBack.{read-back}
 use Rattle.hardest_law.specs.Box.{hardestBox}
@@ -141,45 +140,17 @@ module _ (n w : ℕ) (before : List ℕ) where
     answered : answerFor (length (ticket n w)) (length before) ≡ hardestAnswer n w (length before)
     answered = rw shape (ap (λ (k : ℕ). answerFor k (length before)) size)
 
-    too-short : leb (length (ticket n w)) (length before) ≡ false
-        → WritesHardest n w before before (refusedWriting (refusal 19 (length (ticket n w))))
-    too-short e =
-        record {
-          answer = rw e at answered;
-          untouched = λ z. refl;
-          past = refl;
-          full = λ z. absurd (omega arith);
-          floor = λ z. absurd (omega arith);
-          highest = highest n w;
-          near = λ z. absurd (omega arith);
-        }
-
-    written : leb (length (ticket n w)) (length before) ≡ true
-        → WritesHardest n w before (ticket n w ++ drop (length (ticket n w)) before)
-        (record { refusal = refusal 0 0; length = length (ticket n w) })
-    written e =
-        let s = ticket n w in
-        let back : take (length s) (s ++ drop (length s) before) ≡ s = take-append-seam s (drop (length s) before) in
-        let low : surveyFloor (take (length s) (s ++ drop (length s) before)) ≡ hardestFloor n w =
-        ap surveyFloor back ∙ floor n w long broad in
-        record {
-          answer = rw e at answered;
-          untouched = λ ne. absurd (ne refl);
-          past = drop-append-seam s (drop (length s) before);
-          full = λ z. subst (FullBox n w) (sym back) (full n w long broad);
-          floor = λ z. low;
-          highest = highest n w;
-          near = λ z t b. omega (arith, layers n w t b, low);
-        }
-
     pub box-written : {after : List ℕ} {r : Written} → Wrote (ticket n w) before after r → WritesHardest n w before after r
-    unfolding writtenOver writtenFor
+    unfolding writtenFor
     box-written {after} {r} wrote =
-        split (leb (length (ticket n w)) (length before))
-        (λ e. kept (wrote .buffer ∙ rw e) (wrote .answer ∙ rw e) (written e))
-        (λ e. kept (wrote .buffer ∙ rw e) (wrote .answer ∙ rw e) (too-short e))
-      where
-        kept : {after′ : List ℕ} {r′ : Written} → after ≡ after′ → r ≡ r′ → WritesHardest n w before after′ r′
-            → WritesHardest n w before after r
-        kept {after′} a b done = subst (λ (x : List ℕ). WritesHardest n w before x r) (sym a)
-            (subst (WritesHardest n w before after′) (sym b) done)
+        let low : r .refusal .number ≡ 0 → surveyFloor (writtenIn r after) ≡ hardestFloor n w =
+        λ z. ap surveyFloor (wrote-front wrote z) ∙ floor n w long broad in
+        record {
+          answer = wrote .answer ∙ answered;
+          untouched = wrote-untouched wrote;
+          past = wrote-past wrote;
+          full = λ z. subst (FullBox n w) (sym (wrote-front wrote z)) (full n w long broad);
+          floor = low;
+          highest = highest n w;
+          near = λ z t b. omega (arith, layers n w t b, low z);
+        }

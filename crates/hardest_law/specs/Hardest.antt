@@ -10,7 +10,6 @@
 --   hardestAnswer n w size
 --                       the answer where the lent buffer has so many bytes: "18 (place 0), a side outside 1 to 90; then 19 (place: the
 --                       length needed), lent buffer too short"; "an accepted call that writes a ticket gives the length written"
---   ticketIn r after    the ticket that was written: so many bytes of the buffer as the answer says
 --   WritesHardest n w before after r
 --                       the promise of a call that answers r and leaves the buffer, which was before, as after:
 --     answer            number, place and length
@@ -26,7 +25,7 @@ use mathlib.Core.Logic.{_≢_}
 use mathlib.Core.Bool.{Bool, _&&_}
 use mathlib.Core.List.{List}
 use lib.Dec.{leb}
-use lib.ListN.{length, take, drop}
+use lib.ListN.{length, drop}
 use Rattle.counting.specs.Counting.{In}
 use Rattle.terms.specs.Kinds.{Side, box, quotient}
 use Rattle.terms.specs.Limits.{longestSide, within}
@@ -37,7 +36,7 @@ use Rattle.ticket_sides.specs.Format.{mapBytes}
 use Rattle.ticket.specs.Read.{ticketOf, problemOf, ticketPins}
 use Rattle.survey.specs.Survey.{surveyOf}
 use Rattle.output.specs.declared.Written.{Written}
-use Rattle.output.specs.Writing.{refusedWriting}
+use Rattle.output.specs.Writing.{refusedWriting, writtenIn}
 
 pub record BoxOf (n w : ℕ) (s : List ℕ) : Type 0 where
   pub accepted : ticketOf s .refusal .number ≡ 0
@@ -70,14 +69,11 @@ hardestAnswer n w size =
     (unless (leb (fullLength n w) size) (refusedWriting (refusal 19 (fullLength n w)))
     (record { refusal = refusal 0 0; length = fullLength n w }))
 
-abbrev pub ticketIn : Written → List ℕ → List ℕ
-ticketIn r after = take (r .length) after
-
 pub record WritesHardest (n w : ℕ) (before after : List ℕ) (r : Written) : Type 0 where
   pub answer : r ≡ hardestAnswer n w (length before)
   pub untouched : r .refusal .number ≢ 0 → after ≡ before
   pub past : drop (r .length) after ≡ drop (r .length) before
-  pub full : r .refusal .number ≡ 0 → FullBox n w (ticketIn r after)
-  pub floor : r .refusal .number ≡ 0 → surveyFloor (ticketIn r after) ≡ hardestFloor n w
+  pub full : r .refusal .number ≡ 0 → FullBox n w (writtenIn r after)
+  pub floor : r .refusal .number ≡ 0 → surveyFloor (writtenIn r after) ≡ hardestFloor n w
   pub highest : (s : List ℕ) → BoxOf n w s → surveyFloor s ≤ hardestFloor n w
-  pub near : r .refusal .number ≡ 0 → (s : List ℕ) → BoxOf n w s → surveyLayers s ≤ surveyFloor (ticketIn r after) + 3
+  pub near : r .refusal .number ≡ 0 → (s : List ℕ) → BoxOf n w s → surveyLayers s ≤ surveyFloor (writtenIn r after) + 3

@@ -2,15 +2,19 @@
 use Prim.Native.Nat.{ℕ, suc, _+_, _≤_, _<_}
 use mathlib.Core.Path.{_≡_, refl, sym, ap, ap₂, _∙_, subst}
 use mathlib.Core.List.{List, [], _∷_, _++_, append-assoc, append-nil}
+use mathlib.Core.Logic.{_≢_}
+use mathlib.Core.Bool.{Bool, true, false}
 use native.Mathlib.Numerals.{add-one}
 use native.Mathlib.Omega.{arith}
 use lib.ListN.{length, getD, take, drop, set, length-append}
-use lib.Seq.{take-suc, take-suc-set, drop-cons, set-at, length-take-le}
+use lib.Dec.{leb}
+use lib.Seq.{take-suc, take-suc-set, take-append-seam, drop-cons, drop-append-seam, set-at, length-take-le}
 use borrow.Author.Tests.{lt-leb, le-leb}
+use Rattle.counting.proofs.Sums.{split}
 use Rattle.terms.specs.Refusals.{refusal}
 use Rattle.output.specs.declared.Output.{Output}
 use Rattle.output.specs.declared.Written.{Written}
-use Rattle.output.specs.Writing.{writtenOver, refusedWriting, writtenFor, Wrote}
+use Rattle.output.specs.Writing.{writtenOver, refusedWriting, writtenFor, writtenIn, Wrote}
 use Rattle.output.specs.Building.{Says, Adds}
 
 -- ---- additions
@@ -71,3 +75,32 @@ module _ (bytes before : List ℕ) {used : ℕ} (size : used ≡ length bytes) w
 pub wrote-as : {bytes bytes′ before after : List ℕ} {r : Written} → bytes ≡ bytes′ → Wrote bytes before after r
     → Wrote bytes′ before after r
 wrote-as {before = before} {after = after} {r = r} e w = subst (λ (l : List ℕ). Wrote l before after r) e w
+
+-- ---- what the caller finds
+
+module _ {bytes before after : List ℕ} {r : Written} (w : Wrote bytes before after r) where
+  abbrev room : Bool
+  room = leb (length bytes) (length before)
+
+  short : room ≡ false → (r ≡ refusedWriting (refusal 19 (length bytes))) × (after ≡ before)
+  unfolding writtenOver writtenFor
+  short t = (w .answer ∙ rw t, w .buffer ∙ rw t)
+
+  enough : room ≡ true → (r ≡ record { refusal = refusal 0 0; length = length bytes }) × (after ≡ bytes ++ drop (length bytes) before)
+  unfolding writtenOver writtenFor
+  enough t = (w .answer ∙ rw t, w .buffer ∙ rw t)
+
+  pub wrote-untouched : r .refusal .number ≢ 0 → after ≡ before
+  wrote-untouched n = split room (λ t. absurd (n (ap (λ (x : Written). x .refusal .number) (enough t .0)))) (λ t. short t .1)
+
+  pub wrote-past : drop (r .length) after ≡ drop (r .length) before
+  wrote-past =
+      split room
+      (λ t. rw (enough t .0, enough t .1) (drop-append-seam bytes (drop (length bytes) before)))
+      (λ t. ap (drop (r .length)) (short t .1))
+
+  pub wrote-front : r .refusal .number ≡ 0 → writtenIn r after ≡ bytes
+  wrote-front z =
+      split room
+      (λ t. rw (enough t .0, enough t .1) (take-append-seam bytes (drop (length bytes) before)))
+      (λ t. absurd (omega (arith, ap (λ (x : Written). x .refusal .number) (short t .0))))
