@@ -1,0 +1,4 @@
+pub mod Sizes
+pub mod FlatReadBack
+pub mod FlatBytesBack
+pub mod Promise

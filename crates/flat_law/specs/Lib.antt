@@ -1,0 +1,2 @@
+pub mod FlatBytes
+pub mod Turning

@@ -1,0 +1,1 @@
+// Definitions and laws of flat tickets: specs/ and proofs/. No code.
