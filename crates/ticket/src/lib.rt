@@ -4,6 +4,7 @@ use nets::Spans;
 use problem::Pins;
 use problem::Problem;
 use terms::LONGEST_SIDE;
+use terms::NET_ENTRIES;
 use terms::Refusal;
 use terms::by_kind;
 use ticket_sides::Cursor;
@@ -17,8 +18,10 @@ ghost use mathlib.Core.Path.{_≡_};
 ghost use Prim.Native.Nat.{_+_, _≤_};
 ghost use lib.ListN.{length};
 ghost use mathlib.Core.Bool.{true};
-ghost use Rattle.terms.specs.Limits.{longestSide};
-ghost use Rattle.nets.specs.Tables.{SpansOf};
+ghost use lib.Dec.{eqb, leb};
+ghost use Rattle.counting.specs.Counting.{count, least};
+ghost use Rattle.terms.specs.Limits.{longestSide, largestNet};
+ghost use Rattle.nets.specs.Tables.{SpansOf, pinSum};
 ghost use Rattle.ticket_sides.specs.Format.{standingBits, mapBytes, netList, sideNets};
 ghost use Rattle.ticket_sides.specs.Steps.{Header};
 ghost use Rattle.ticket.specs.Read.{pinsAt, leftOver, noLone, refusedReading, acceptedReading, problemAt, judged, ticketOf, readOf};
@@ -142,7 +145,7 @@ fn no_lone(lone: usize) -> Cursor
     unless(lone == 0, 9, lone, go_on(0))
 }
 
-// (For our own crates.)
+// A reading that is refused. (For our own crates.)
 pub fn refused(c: Cursor) -> Parsed
     ensures { λ r. ⌜ (readingOf r ≡ refusedReading c) × (r .refusal ≡ c .refusal) ⌝ }
 {
@@ -167,7 +170,8 @@ pub fn refused(c: Cursor) -> Parsed
     }
 }
 
-fn accepted(ticket: &[u8], nets: u8, pins: Pins, spans: Spans) -> Parsed
+// A reading that is accepted. (For our own crates.)
+pub fn accepted(ticket: &[u8], nets: u8, pins: Pins, spans: Spans) -> Parsed
     requires { ⌜ Header (now ticket) ⌝ }
     ensures { λ r. ⌜ (readingOf r ≡ acceptedReading (problemAt (now (ticket .entry)) nets pins)) × (r .spans ≡ spans) ⌝ }
 {
@@ -187,8 +191,31 @@ fn accepted(ticket: &[u8], nets: u8, pins: Pins, spans: Spans) -> Parsed
     }
 }
 
-// The spans, and the last test, once all bytes are read. (For our own crates.)
-pub fn judged(ticket: &[u8], pins: Pins) -> Parsed
+// The last test of a reading, and how many nets there are.
+pub struct NetTally {
+    pub last: Cursor,
+    pub nets: u8,
+}
+
+// From the lists of how many pins each side has. (For our own crates.)
+pub fn tally<'a>(
+    a: &'a [u8; NET_ENTRIES],
+    b: &'a [u8; NET_ENTRIES],
+    c: &'a [u8; NET_ENTRIES],
+    d: &'a [u8; NET_ENTRIES],
+) -> NetTally
+    ensures last { λ r. ⌜ r .last
+        ≡ noLone (least (λ m. eqb (pinSum (now (a .entry)) (now (b .entry)) (now (c .entry)) (now (d .entry)) m) 1) largestNet) ⌝ }
+    ensures nets { λ r. ⌜ r .nets
+        ≡ count (λ m. leb 1 (pinSum (now (a .entry)) (now (b .entry)) (now (c .entry)) (now (d .entry)) m)) largestNet ⌝ }
+{
+    let last = no_lone(nets::lone_net(a, b, c, d));
+    let nets = nets::net_count(a, b, c, d);
+    NetTally { last, nets }
+}
+
+// The spans, and the last test, once all bytes are read.
+fn judged(ticket: &[u8], pins: Pins) -> Parsed
     requires { ⌜ Header (now ticket) × Sited (now ticket) pins ⌝ }
     ensures reads { λ r. ⌜ readingOf r ≡ judged (now (ticket .entry)) pins ⌝ }
     ensures spans { λ r. ⌜ (r .refusal .number ≡ 0 → SpansOf (r .problem) (r .spans)) ⌝ }
@@ -196,23 +223,17 @@ pub fn judged(ticket: &[u8], pins: Pins) -> Parsed
     let n = ticket[1] as usize;
     let w = by_kind(ticket[0], 1, 1, 1, ticket[2] as usize, 1);
     let spans = nets::spans_of(&pins.north, &pins.south, &pins.west, &pins.east, n, w);
-    let lone = nets::lone_net(
+    let tally = tally(
         &spans.columns.one,
         &spans.columns.two,
         &spans.tracks.one,
         &spans.tracks.two,
     );
-    let last = no_lone(lone);
+    let last = tally.last;
     if last.refusal.number != 0 {
         return refused(last);
     }
-    let nets = nets::net_count(
-        &spans.columns.one,
-        &spans.columns.two,
-        &spans.tracks.one,
-        &spans.tracks.two,
-    );
-    accepted(ticket, nets, pins, spans)
+    accepted(ticket, tally.nets, pins, spans)
 }
 
 // The whole reading, with the spans: for the crates that go on from a good reading to its figures and its wiring.

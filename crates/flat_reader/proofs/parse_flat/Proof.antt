@@ -73,8 +73,8 @@ flat-pins-requires c κs =
     let h = head-good _ (p .0) .0 in
     (h, places-end _ h (p .1) .1)
 
-judged-requires : tie.Need-judged-requires
-judged-requires c κs =
+flat-judged-requires : tie.Need-flat-judged-requires
+flat-judged-requires c κs =
     let p = passed (c .before) in
     let g = head-good _ (p .0) in
     (g .0, subst (Sited _) (sym (c .flat-pins .ensures)) (flat-sited _ (g .1) (g .0) (p .1)))
@@ -86,7 +86,7 @@ returns-4 c =
     let c11 = c7 .before .before .before .before in
     let s = now (c11 .before .before .args .flat) in
     let places = end s (c7 .before .place-count .ensures) (c7 .net-bytes .ensures .0) in
-    c .judged .ensures .0 ∙ ap (judged s) (c .before .flat-pins .ensures)
+    c .flat-judged .ensures ∙ ap (judged s) (c .before .flat-pins .ensures)
     ∙ sym (going-on _ (c11 .flat-header .ensures) (c7 .before .before .if1 .left)
     ∙ going-on _ places (c .before .before .before .before .before .if2 .left)
     ∙ going-on _ (c .before .before .before .before .left-over .ensures ∙ ap (λ (x : Cursor). leftOver s (x .at)) places)
@@ -95,4 +95,4 @@ returns-4 c =
 pub parse-flat-spec : {M : Type 1} → statement M
 parse-flat-spec =
     tie.close (tie.spec (λ c κs. search needs) (λ c κs. search needs) returns place-count-requires net-bytes-requires (λ c κs. search needs)
-    returns-2 (λ c κs. search needs) (λ c κs. search needs) returns-3 flat-pins-requires judged-requires returns-4)
+    returns-2 (λ c κs. search needs) (λ c κs. search needs) returns-3 flat-pins-requires flat-judged-requires returns-4)
