@@ -2,7 +2,7 @@
 
 use crate::survey::quotient;
 use crate::tickets::{encode, Places};
-use crate::{places, Refusal, BOX, EAST, LONGEST_SIDE, NORTH, SOUTH, WEST};
+use crate::{places, written, Refusal, BOX, EAST, LONGEST_SIDE, NORTH, SOUTH, WEST};
 
 /// Every length and width that a box may have.
 pub fn shapes() -> impl Iterator<Item = (usize, usize)> {
@@ -36,22 +36,16 @@ pub fn ticket(n: usize, w: usize) -> Vec<u8> {
     encode(BOX, n, w, &pins)
 }
 
-/// Writes the ticket of these sides into the buffer and gives its length; a refusal alters no byte.
-pub fn write(n: usize, w: usize, buffer: &mut [u8]) -> Result<usize, Refusal> {
+/// The ticket of these sides, if they are a shape's.
+fn of_sides(n: usize, w: usize) -> Result<Vec<u8>, Refusal> {
     let sides = 1..=LONGEST_SIDE;
     if !sides.contains(&n) || !sides.contains(&w) {
         return Err(Refusal(18, 0));
     }
-    let ticket = ticket(n, w);
-    let Some(part) = buffer.get_mut(..ticket.len()) else { return Err(Refusal(19, ticket.len())) };
-    part.copy_from_slice(&ticket);
-    Ok(ticket.len())
+    Ok(ticket(n, w))
 }
 
 /// number, place, length; the buffer is as the call leaves it.
 pub fn answer(n: usize, w: usize, buffer: &mut [u8]) -> [u64; 3] {
-    match write(n, w, buffer) {
-        Err(Refusal(number, place)) => [number as u64, place as u64, 0],
-        Ok(length) => [0, 0, length as u64],
-    }
+    written(of_sides(n, w), buffer)
 }

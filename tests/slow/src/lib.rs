@@ -1,8 +1,9 @@
 //! A slow, independent reading of the scope document and of the requests: it reads and surveys tickets, judges wirings and
-//! lays them, and writes the hardest box of a shape.
+//! lays them, writes the hardest box of a shape, and turns tickets flat and back.
 //!
 //! Written from the documents alone; it shares no code with the crates. Refusals are a number and a place.
 
+pub mod flat;
 pub mod hardest;
 pub mod judge;
 pub mod lay;
@@ -22,6 +23,7 @@ pub const MOST_LAYERS: usize = 255;
 pub const MOST_TRUNK_LAYERS: usize = 8;
 pub const LARGEST_NET: u8 = 180;
 pub const LONGEST_TICKET: usize = 412;
+pub const LONGEST_FLAT: usize = 363;
 
 /// The four sides, in the order of the side map's bits.
 pub const NORTH: usize = 0;
@@ -76,6 +78,22 @@ pub fn places(side: usize, n: usize, w: usize) -> usize {
 /// A refusal: its number and its place.
 #[derive(Clone, Copy, Debug, PartialEq, Eq)]
 pub struct Refusal(pub u8, pub usize);
+
+/// number, place, length of a call that writes these bytes to the front of the buffer, or 19 where that is too short. A refusal
+/// alters no byte.
+pub fn written(bytes: Result<Vec<u8>, Refusal>, buffer: &mut [u8]) -> [u64; 3] {
+    let outcome = bytes.and_then(|bytes| match buffer.get_mut(..bytes.len()) {
+        Some(front) => {
+            front.copy_from_slice(&bytes);
+            Ok(bytes.len())
+        }
+        None => Err(Refusal(19, bytes.len())),
+    });
+    match outcome {
+        Err(Refusal(number, place)) => [number as u64, place as u64, 0],
+        Ok(length) => [0, 0, length as u64],
+    }
+}
 
 /// A pin: its side, its place from 1, its net.
 #[derive(Clone, Copy, Debug, PartialEq, Eq)]

@@ -2,12 +2,12 @@
 
 use crate::{places, rules, Pin, Refusal, Ticket, LARGEST_NET, LONGEST_SIDE};
 
-pub fn read(t: &[u8]) -> Result<Ticket, Refusal> {
+/// Four bytes or more, and what bytes 0 to 2 of a ticket, flat or not, say: the sides that the kind has, n and byte 2.
+pub fn header(t: &[u8]) -> Result<(&'static [usize], usize, usize), Refusal> {
     if t.len() < 4 {
         return Err(Refusal(1, t.len()));
     }
-    let kind = t[0];
-    let Some((allowed, largest)) = rules(kind) else { return Err(Refusal(2, 0)) };
+    let Some((sides, largest)) = rules(t[0]) else { return Err(Refusal(2, 0)) };
     let n = t[1] as usize;
     if !(1..=LONGEST_SIDE).contains(&n) {
         return Err(Refusal(3, 1));
@@ -16,6 +16,19 @@ pub fn read(t: &[u8]) -> Result<Ticket, Refusal> {
     if !(1..=largest).contains(&byte2) {
         return Err(Refusal(4, 2));
     }
+    Ok((sides, n, byte2))
+}
+
+/// Refuses the smallest net with one pin.
+pub fn no_lone_net(pins: &[Pin]) -> Result<(), Refusal> {
+    match (1..=LARGEST_NET).find(|net| pins.iter().filter(|p| p.net == *net).count() == 1) {
+        Some(net) => Err(Refusal(9, net as usize)),
+        None => Ok(()),
+    }
+}
+
+pub fn read(t: &[u8]) -> Result<Ticket, Refusal> {
+    let (allowed, n, byte2) = header(t)?;
     let standing: Vec<usize> = (0..8).filter(|s| t[3] >> s & 1 == 1).collect();
     if standing.iter().any(|s| !allowed.contains(s)) {
         return Err(Refusal(5, 3));
@@ -45,12 +58,8 @@ pub fn read(t: &[u8]) -> Result<Ticket, Refusal> {
     if at < t.len() {
         return Err(Refusal(8, at));
     }
-    for net in 1..=LARGEST_NET {
-        if pins.iter().filter(|p| p.net == net).count() == 1 {
-            return Err(Refusal(9, net as usize));
-        }
-    }
-    Ok(Ticket { kind, n, byte2, pins })
+    no_lone_net(&pins)?;
+    Ok(Ticket { kind: t[0], n, byte2, pins })
 }
 
 /// number, place, kind, n, byte 2, nets

@@ -3,10 +3,10 @@
 //!     cargo run --manifest-path tests/slow/Cargo.toml --bin generate [-- --check]
 
 use slow::judge::{self, Grid};
-use slow::tickets::{self, damaged, encode, of_shape, Numbers, Places, DOCUMENT};
+use slow::tickets::{self, damaged, encode, of_shape, slots, Numbers, Places, DOCUMENT};
 use slow::wirings::{case, layered, spoiled, wired, Case};
-use slow::{hardest, lay, no_kind, read, survey, two_layer, Refusal, Ticket, BOX, CHANNEL, EAST, NORTH, ROW, SOUTH, TWO_LAYER, WEST};
-use slow::{LARGEST_NET, LONGEST_SIDE, LONGEST_TICKET, MOST_LAYERS, MOST_TRUNK_LAYERS, WIDEST_CHANNEL, WIDEST_GRID};
+use slow::{flat, hardest, lay, no_kind, read, survey, two_layer, Refusal, Ticket, BOX, CHANNEL, EAST, NORTH, ROW, SOUTH, TWO_LAYER, WEST};
+use slow::{LARGEST_NET, LONGEST_FLAT, LONGEST_SIDE, LONGEST_TICKET, MOST_LAYERS, MOST_TRUNK_LAYERS, WIDEST_CHANNEL, WIDEST_GRID};
 use std::path::Path;
 
 fn record(t: &[u8]) -> Vec<u8> {
@@ -346,7 +346,7 @@ fn lay_row((t, length): &(Vec<u8>, usize)) -> String {
 /// The buffer that hardest_vectors has for a record; it lends the first bytes of it.
 const RECORD_BUFFER: usize = 512;
 
-/// What its buffers hold before a call.
+/// What its buffers, and those of flat_vectors, hold before a call.
 const STAIN: u8 = 170;
 
 /// The hash that it makes of a buffer's bytes, going on from that of the buffers before.
@@ -408,9 +408,158 @@ fn hardest_row((n, w, size): &(usize, usize, usize)) -> String {
     row(&[number, place, length, hash(0, &buffer)])
 }
 
+/// A ticket turned flat.
+fn flat_of(t: &[u8]) -> Vec<u8> {
+    flat::flatten(t).expect("a good ticket")
+}
+
+/// Tickets to be turned flat; what comes of the good ones is to be turned back.
+fn tickets_to_turn(r: &mut Numbers) -> Vec<Vec<u8>> {
+    let mut out = document();
+    // One place, two places, and more: empty and full.
+    let trunks =
+        [(ROW, 1, 1), (ROW, 2, 8), (ROW, 8, 1), (ROW, 9, 3), (CHANNEL, 1, 8), (CHANNEL, 9, 1), (TWO_LAYER, 1, 1), (TWO_LAYER, 8, 1)];
+    let boxes = [(1, 1), (1, 9), (9, 1), (8, 8), (13, 5)].map(|(n, w)| (BOX, n, w));
+    for (kind, n, byte2) in trunks.into_iter().chain(boxes) {
+        out.extend([0, 5, 10].map(|tenths| of_shape(r, kind, n, byte2, tenths)));
+    }
+    // Each side full or empty: a net for each.
+    for (kind, n, byte2) in [(ROW, 3, 1), (CHANNEL, 2, 2), (BOX, 3, 2), (TWO_LAYER, 3, 1)] {
+        for map in 0..16 {
+            let all = slots(kind, n, byte2);
+            if (0..4).all(|side| map >> side & 1 == 0 || all.contains(&(side, 1))) {
+                let pins = all.into_iter().filter(|(side, _)| map >> side & 1 == 1);
+                out.push(encode(kind, n, byte2, &pins.map(|(side, i)| ((side, i), 10 + side as u8)).collect()));
+            }
+        }
+    }
+    // The longest of each kind; one net has every place of a box.
+    let side = LONGEST_SIDE;
+    let one_net: Places = slots(BOX, side, side).into_iter().map(|place| (place, LARGEST_NET)).collect();
+    out.extend([hardest::ticket(side, side), encode(BOX, side, side, &one_net), encode(BOX, side, side, &Places::new())]);
+    out.extend([(ROW, side, 1), (CHANNEL, side, 1), (TWO_LAYER, side, 1), (BOX, 1, side)].map(|(kind, n, b)| of_shape(r, kind, n, b, 10)));
+    out.extend((0..50).map(|_| tickets::random(r)));
+    // Good as a ticket and as a flat ticket.
+    out.push(vec![ROW, 6, 1, 1, 15, 1, 15, 1, 15]);
+    out
+}
+
+/// Tickets with each of Read's refusals.
+fn refused_tickets() -> Vec<Vec<u8>> {
+    let row = [ROW, 3, 1, 1, 7, 4, 4, 4];
+    let most = LONGEST_SIDE as u8;
+    let first_four = [
+        [0, 3, 1, 0],
+        [TWO_LAYER + 1, 3, 1, 0],
+        [ROW, 0, 1, 0],
+        [ROW, most + 1, 1, 0],
+        [ROW, 3, 9, 0],
+        [TWO_LAYER, 3, 2, 0],
+        [BOX, 3, most + 1, 0],
+        [ROW, 3, 1, 2],
+        [CHANNEL, 3, 1, 4],
+        [TWO_LAYER, 3, 1, 8],
+        [BOX, 3, 1, 16],
+    ];
+    let maps = [[ROW, 3, 1, 1, 0], [ROW, 3, 1, 1, 8], [BOX, 3, 1, 8, 2]];
+    let nets = [[ROW, 3, 1, 1, 3, 0, 4], [ROW, 3, 1, 1, 3, 4, 181], [ROW, 3, 1, 1, 3, 4, 5], [TWO_LAYER, 3, 1, 2, 6, 5, 4]];
+    let left_over = [[ROW, 3, 1, 1, 3, 4, 4, 0], [ROW, 3, 1, 1, 3, 4, 5, 0], [CHANNEL, 2, 1, 2, 3, 4, 4, 181]];
+    let mut out: Vec<Vec<u8>> = (0..row.len()).map(|size| row[..size].to_vec()).collect();
+    out.extend(first_four.map(Vec::from));
+    out.extend(maps.map(Vec::from));
+    out.extend(nets.map(Vec::from));
+    out.extend(left_over.map(Vec::from));
+    out
+}
+
+/// Flat tickets with each refusal, and the order of these; the first four bytes at the edges of their ranges.
+fn refused_flats(r: &mut Numbers) -> Vec<Vec<u8>> {
+    // Too short, whatever the bytes are.
+    let mut out = vec![vec![0], vec![255, 255], vec![0, 0, 0], vec![ROW, 0, 1], vec![ROW, 1, 0], vec![TWO_LAYER, 1, 2]];
+    let (longest, most) = (LONGEST_SIDE as u8, MOST_TRUNK_LAYERS as u8);
+    for kind in [0, ROW, CHANNEL, BOX, TWO_LAYER, TWO_LAYER + 1, 128 + ROW, 255] {
+        for n in [0, 1, longest, longest + 1, 255] {
+            out.extend([0, 1, 2, most, most + 1, longest, longest + 1].map(|byte2| vec![kind, n, byte2, 0]));
+        }
+    }
+    let shapes = [(ROW, 9, 2, 7), (CHANNEL, 4, 1, 10), (BOX, 4, 3, 6), (BOX, 1, 5, 10), (TWO_LAYER, 5, 1, 8)];
+    for (kind, n, byte2, tenths) in shapes {
+        let good = flat_of(&of_shape(r, kind, n, byte2, tenths));
+        out.extend((0..good.len()).map(|size| good[..size].to_vec()));
+        // Bytes left over are not looked at.
+        for more in [&[0][..], &[1], &[LARGEST_NET + 1], &[0; 30]] {
+            out.push([&good[..], more].concat());
+        }
+        for at in 3..good.len() {
+            let mut bad = good.clone();
+            bad[at] = r.pick(&[LARGEST_NET + 1, 200, 255]);
+            // The last byte, one before a missing one, one before a byte left over, missing itself, and as it is.
+            out.extend([bad[..=at].to_vec(), bad[..bad.len() - 1].to_vec(), [&bad[..], &[9]].concat(), bad[..at].to_vec(), bad]);
+        }
+        // Another net at a place, so that it or the one before has one pin; with a byte left over, and as it is.
+        for at in (3..good.len()).step_by(2) {
+            let mut bad = good.clone();
+            bad[at] = 1 + r.below(LARGEST_NET as usize) as u8;
+            out.extend([[&bad[..], &[0]].concat(), bad]);
+        }
+    }
+    for (a, b) in [(7, 3), (3, 7), (LARGEST_NET, 1), (LARGEST_NET, 0), (0, LARGEST_NET), (LARGEST_NET + 1, 1), (1, LARGEST_NET + 1)] {
+        out.extend([vec![ROW, 2, 1, a, b], vec![BOX, 1, 1, 0, a, b, 0], vec![TWO_LAYER, 1, 1, a, b, b]]);
+    }
+    let large = flat_of(&hardest::ticket(LONGEST_SIDE, LONGEST_SIDE));
+    let with = |at: usize, net: u8| [&large[..at], &[net], &large[at + 1..]].concat();
+    out.extend([large[..large.len() - 1].to_vec(), [&large[..], &[0]].concat(), with(LONGEST_FLAT - 1, LARGEST_NET + 1)]);
+    out.extend([with(3, 0), with(LONGEST_FLAT - 1, 0), with(LONGEST_FLAT - 1, 1)]);
+    out
+}
+
+/// Bytes that both calls get, each with the length of the buffer: where a call accepts them exact, one byte short, longer, none.
+fn flat_cases() -> Vec<(Vec<u8>, usize)> {
+    let r = &mut Numbers::new(43);
+    let tickets = tickets_to_turn(r);
+    let mut all: Vec<Vec<u8>> = tickets.iter().flat_map(|t| [Some(t.clone()), flat::flatten(t).ok()]).flatten().collect();
+    all.extend(refused_tickets());
+    for _ in 0..120 {
+        let t = tickets::random(r);
+        let from = if r.below(2) == 0 { t } else { flat_of(&t) };
+        all.push(damaged(r, &from));
+    }
+    let mut out = Vec::new();
+    for bytes in all {
+        let lengths: Vec<usize> = [flat::flatten(&bytes), flat::unflatten(&bytes)].into_iter().flatten().map(|made| made.len()).collect();
+        for length in &lengths {
+            out.extend([*length, length - 1, length + 1 + r.below(4), 0].map(|size| (bytes.clone(), size)));
+        }
+        if lengths.is_empty() {
+            out.push((bytes, r.below(9)));
+        }
+    }
+    out.extend(refused_flats(r).into_iter().map(|bytes| (bytes, r.below(9))));
+    out
+}
+
+fn flat_record((bytes, size): &(Vec<u8>, usize)) -> Vec<u8> {
+    let mut out = record(bytes);
+    out.extend((*size as u16).to_le_bytes());
+    out
+}
+
+/// A line for each call: number, place, length, and every byte of the buffer.
+fn flat_rows((bytes, size): &(Vec<u8>, usize)) -> String {
+    let calls = [flat::flatten_answer, flat::unflatten_answer];
+    let line = |call: fn(&[u8], &mut [u8]) -> [u64; 3]| {
+        let mut buffer = vec![STAIN; *size];
+        let mut numbers = call(bytes, &mut buffer).to_vec();
+        numbers.extend(buffer.iter().map(|b| *b as u64));
+        row(&numbers)
+    };
+    calls.map(|call| line(call)).concat()
+}
+
 /// What each program reads and must print.
 fn vectors() -> Vec<(&'static str, Vec<u8>, String)> {
     let (reads, surveys, checks, lays, boxes) = (read_tickets(), survey_tickets(), check_cases(), lay_cases(), hardest_cases());
+    let turns = flat_cases();
     let records = |list: &[Vec<u8>]| list.iter().flat_map(|t| record(t)).collect();
     let verdict = |c: &Case| row(&judge::answer(&c.ticket, c.w, c.k, c.first, &c.wiring, c.scratch));
     let hardest_rows: String = boxes.iter().map(hardest_row).collect();
@@ -420,6 +569,7 @@ fn vectors() -> Vec<(&'static str, Vec<u8>, String)> {
         ("check_vectors", checks.iter().flat_map(check_record).collect(), checks.iter().map(verdict).collect()),
         ("lay_vectors", lays.iter().flat_map(lay_record).collect(), lays.iter().map(lay_row).collect()),
         ("hardest_vectors", boxes.iter().flat_map(hardest_record).collect(), every_hardest() + &hardest_rows),
+        ("flat_vectors", turns.iter().flat_map(flat_record).collect(), turns.iter().map(flat_rows).collect()),
     ]
 }
 
