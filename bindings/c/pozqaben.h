@@ -17,7 +17,7 @@
  *             or is not 1 (two-layer channel)
  *    5        byte 3, the side map, has a side that the kind has not       3
  *    6        a position map has no bit, or a spare bit                    the map's first byte
- *    7        a net number is none of 1 to 180                             its byte
+ *    7        a net number is none of 1 to 180, nor 0 in a flat ticket     its byte
  *    8        bytes are left over                                          the first
  *    9        a net has one pin                                            the smallest such net
  *    10       the wiring buffer is shorter than n * w * k                  the length needed
@@ -33,7 +33,11 @@
  *             net has one north and one south pin, and some net's are in
  *             different columns, so no width has a legal wiring
  *    18       a side of the box, n or w, is none of 1 to 90                0
- *    19       the buffer is shorter than the ticket                        the length needed
+ *    19       the buffer is shorter than what is to be written             the length needed
+ *
+ * A flat ticket is bytes 0 to 2 of a ticket, then a byte for every place of every side that the kind has, in the order
+ * north, south, west, east: its net number, or 0 for an empty place. Of it 1 to 4 and 7 to 9 say the same, with the
+ * places counted in its own bytes; it has neither 5 nor 6.
  */
 #ifndef POZQABEN_H
 #define POZQABEN_H
@@ -53,7 +57,9 @@ enum {
     POZQABEN_LAY_ENTRIES = 11,
     POZQABEN_CHECK_ENTRIES = 2,
     POZQABEN_LAYER_VIEW_ENTRIES = 4,
-    POZQABEN_HARDEST_BOX_ENTRIES = 3
+    POZQABEN_HARDEST_BOX_ENTRIES = 3,
+    POZQABEN_FLATTEN_ENTRIES = 3,
+    POZQABEN_UNFLATTEN_ENTRIES = 3
 };
 
 /* A ticket's kind. */
@@ -61,6 +67,9 @@ enum { POZQABEN_ROW = 1, POZQABEN_CHANNEL = 2, POZQABEN_BOX = 3, POZQABEN_TWO_LA
 
 /* A ticket that is not refused has no more bytes, and one byte more than this of any bytes tells how they are read. */
 enum { POZQABEN_LONGEST_TICKET = 412 };
+
+/* A flat ticket that is not refused has no more bytes. */
+enum { POZQABEN_LONGEST_FLAT = 363 };
 
 /* number, place, kind, n, byte 2, nets */
 bool pozqaben_read(const uint8_t *ticket, size_t ticket_length, uint64_t *answer, size_t answer_length);
@@ -91,6 +100,17 @@ bool pozqaben_layer_view(const uint8_t *wiring, size_t wiring_length, size_t n, 
  * POZQABEN_LONGEST_TICKET bytes are enough for every shape. */
 bool pozqaben_hardest_box(size_t n, size_t w, uint8_t *ticket, size_t ticket_length, uint64_t *answer,
                           size_t answer_length);
+
+/* number, place, length. Writes the flat ticket that says what the ticket says. A refusal alters no byte of the buffer;
+ * bytes past the length are untouched. POZQABEN_LONGEST_FLAT bytes are enough for every ticket. */
+bool pozqaben_flatten(const uint8_t *ticket, size_t ticket_length, uint8_t *flat, size_t flat_length, uint64_t *answer,
+                      size_t answer_length);
+
+/* number, place, length. Writes the ticket that says what the flat ticket says: the very bytes that it was turned flat
+ * from, if it was. A refusal alters no byte of the buffer; bytes past the length are untouched.
+ * POZQABEN_LONGEST_TICKET bytes are enough for every flat ticket. */
+bool pozqaben_unflatten(const uint8_t *flat, size_t flat_length, uint8_t *ticket, size_t ticket_length, uint64_t *answer,
+                        size_t answer_length);
 
 #ifdef __cplusplus
 }

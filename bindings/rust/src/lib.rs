@@ -1,8 +1,9 @@
-//! Pozqaben: reads and surveys tickets, lays wirings, checks wirings that anybody drew, shows a layer of one, and writes the
-//! hardest box of a shape.
+//! Pozqaben: reads and surveys tickets, lays wirings, checks wirings that anybody drew, shows a layer of one, writes the
+//! hardest box of a shape, and turns tickets flat and back.
 //!
 //! A safe wrapper of the calls that the repository proves. A ticket is bytes; a wiring is a buffer that holds point
-//! (i, j, l), counted from 1, at ((l - 1) * w + (j - 1)) * n + i - 1, a net's number or 0.
+//! (i, j, l), counted from 1, at ((l - 1) * w + (j - 1)) * n + i - 1, a net's number or 0. A flat ticket is bytes 0 to 2 of a
+//! ticket and then a byte for every place of every side that the kind has, north, south, west, east: a net's number or 0.
 //!
 //! ```
 //! let ticket = [2, 2, 1, 3, 3, 1, 2, 3, 2, 1]; // a channel: north 1 2, south 2 1
@@ -11,6 +12,7 @@
 //! pozqaben::check(&ticket, laid.w, laid.k, laid.first, &wiring).unwrap();
 //! let refusal = pozqaben::read(&[1, 2, 1, 1, 3, 1, 2]).unwrap_err();
 //! assert_eq!(refusal.to_string(), "refused 9 at 1: net 1 has one pin only");
+//! assert_eq!(pozqaben::unflatten(&[2, 2, 1, 1, 2, 2, 1]).unwrap(), ticket); // the channel, flat
 //! ```
 
 use std::fmt;
@@ -34,6 +36,8 @@ pub const MOST_TRUNK_LAYERS: usize = 8;
 pub const LARGEST_NET: u8 = 180;
 /// The most bytes of a ticket that is not refused.
 pub const LONGEST_TICKET: usize = 412;
+/// The most bytes of a flat ticket that is not refused.
+pub const LONGEST_FLAT: usize = 363;
 
 #[derive(Clone, Copy, Debug, PartialEq, Eq)]
 pub enum Kind {
@@ -222,10 +226,46 @@ pub fn hardest_box_into(n: usize, w: usize, ticket: &mut [u8]) -> Result<usize, 
     Ok(length)
 }
 
+/// What a call writes into a buffer of this length, which is enough for it.
+fn written(longest: usize, call: impl FnOnce(&mut [u8]) -> Result<usize, Refusal>) -> Result<Vec<u8>, Refusal> {
+    let mut buffer = vec![0; longest];
+    let length = call(&mut buffer)?;
+    buffer.truncate(length);
+    Ok(buffer)
+}
+
 /// A box ticket of n columns and w tracks with every place filled, whose floor no box ticket of that shape exceeds.
 pub fn hardest_box(n: usize, w: usize) -> Result<Vec<u8>, Refusal> {
-    let mut ticket = vec![0; LONGEST_TICKET];
-    let length = hardest_box_into(n, w, &mut ticket)?;
-    ticket.truncate(length);
-    Ok(ticket)
+    written(LONGEST_TICKET, |ticket| hardest_box_into(n, w, ticket))
+}
+
+/// Writes the flat ticket of `flatten` into the buffer and gives its length. A refusal alters no byte of the buffer, and no other
+/// call a byte past the flat ticket.
+pub fn flatten_into(ticket: &[u8], flat: &mut [u8]) -> Result<usize, Refusal> {
+    let mut answer = [0; raw::FLATTEN_ENTRIES];
+    // Sound: as in `lay_into`.
+    unsafe { raw::pozqaben_flatten(ticket.as_ptr(), ticket.len(), flat.as_mut_ptr(), flat.len(), answer.as_mut_ptr(), answer.len()) };
+    let [_, _, length] = accepted(answer)?;
+    Ok(length)
+}
+
+/// The flat ticket that says what the ticket says; `unflatten` gives back the very bytes.
+pub fn flatten(ticket: &[u8]) -> Result<Vec<u8>, Refusal> {
+    written(LONGEST_FLAT, |flat| flatten_into(ticket, flat))
+}
+
+/// Writes the ticket of `unflatten` into the buffer and gives its length. A refusal alters no byte of the buffer, and no other
+/// call a byte past the ticket.
+pub fn unflatten_into(flat: &[u8], ticket: &mut [u8]) -> Result<usize, Refusal> {
+    let mut answer = [0; raw::UNFLATTEN_ENTRIES];
+    // Sound: as in `lay_into`.
+    unsafe { raw::pozqaben_unflatten(flat.as_ptr(), flat.len(), ticket.as_mut_ptr(), ticket.len(), answer.as_mut_ptr(), answer.len()) };
+    let [_, _, length] = accepted(answer)?;
+    Ok(length)
+}
+
+/// The ticket that says what the flat ticket says; `flatten` gives back the very bytes. The place of a refusal counts the flat
+/// ticket's own bytes.
+pub fn unflatten(flat: &[u8]) -> Result<Vec<u8>, Refusal> {
+    written(LONGEST_TICKET, |ticket| unflatten_into(flat, ticket))
 }

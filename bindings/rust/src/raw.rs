@@ -15,6 +15,8 @@ pub const LAY_ENTRIES: usize = 11;
 pub const CHECK_ENTRIES: usize = 2;
 pub const LAYER_VIEW_ENTRIES: usize = 4;
 pub const HARDEST_BOX_ENTRIES: usize = 3;
+pub const FLATTEN_ENTRIES: usize = 3;
+pub const UNFLATTEN_ENTRIES: usize = 3;
 
 /// A ticket's kind, as the answers have it.
 pub const ROW: u64 = 1;
@@ -68,4 +70,24 @@ extern "C" {
 
     /// number, place, length
     pub fn pozqaben_hardest_box(n: usize, w: usize, ticket: *mut u8, ticket_length: usize, answer: *mut u64, answer_length: usize) -> bool;
+
+    /// number, place, length
+    pub fn pozqaben_flatten(
+        ticket: *const u8,
+        ticket_length: usize,
+        flat: *mut u8,
+        flat_length: usize,
+        answer: *mut u64,
+        answer_length: usize,
+    ) -> bool;
+
+    /// number, place, length
+    pub fn pozqaben_unflatten(
+        flat: *const u8,
+        flat_length: usize,
+        ticket: *mut u8,
+        ticket_length: usize,
+        answer: *mut u64,
+        answer_length: usize,
+    ) -> bool;
 }

@@ -3,7 +3,7 @@
 use crate::{raw, LARGEST_NET, LONGEST_SIDE, MOST_LAYERS, MOST_TRUNK_LAYERS, WIDEST_CHANNEL, WIDEST_GRID};
 use std::fmt;
 
-/// A refusal's number, and its place: a byte of the ticket, a length, a net, a point or a layer, as the number says.
+/// A refusal's number, and its place: a byte of the ticket, flat or not, a length, a net, a point or a layer, as the number says.
 #[derive(Clone, Copy, Debug, PartialEq, Eq)]
 pub struct Refusal {
     pub number: u8,
@@ -49,7 +49,7 @@ impl Refusal {
             16 => format!("the wiring has no layer {place}"),
             17 => "the two-layer channel is solid, so that no width has a legal wiring on two layers".to_string(),
             18 => format!("a side of the box, n or w, is none of 1 to {LONGEST_SIDE}"),
-            19 => format!("the buffer is shorter than the {place} bytes that the ticket takes"),
+            19 => format!("the buffer is shorter than the {place} bytes that are to be written"),
             other => format!("no refusal has the number {other}"),
         }
     }

@@ -6,7 +6,7 @@ use common::{Lent, MARK};
 use slow::hardest;
 use slow::tickets::{random, Numbers};
 use slow::wirings::wired;
-use slow::LONGEST_TICKET;
+use slow::{LONGEST_FLAT, LONGEST_TICKET};
 
 /// A call with arrays that are too short, and one that is just long enough.
 fn only_with_room(entries: usize, mut call: impl FnMut(&mut [u64]) -> bool) {
@@ -61,6 +61,29 @@ fn hardest_box() {
             only_with_room(3, |a| {
                 let told = common::hardest_box(n, w, ticket.part(), a);
                 assert!(told || ticket.kept_past(0));
+                told
+            });
+        }
+    }
+}
+
+/// Tickets and flat ones, good and refused, into a buffer that is long enough and into an empty one.
+#[test]
+fn flatten_and_unflatten() {
+    let r = &mut Numbers::new(505);
+    for _ in 0..500 {
+        let (t, flat) = (common::ticket(r), common::flat(r));
+        for (flat_size, ticket_size) in [(0, 0), (LONGEST_FLAT, LONGEST_TICKET)] {
+            let mut buffer = Lent::new(flat_size, 6);
+            only_with_room(3, |a| {
+                let told = common::flatten(&t, buffer.part(), a);
+                assert!(told || buffer.kept_past(0));
+                told
+            });
+            let mut buffer = Lent::new(ticket_size, 7);
+            only_with_room(3, |a| {
+                let told = common::unflatten(&flat, buffer.part(), a);
+                assert!(told || buffer.kept_past(0));
                 told
             });
         }

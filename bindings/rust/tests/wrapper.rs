@@ -1,6 +1,7 @@
 //! The safe wrapper's typed answers, and what its refusals say.
 
-use pozqaben::{check, check_with, hardest_box, hardest_box_into, lay, lay_into, layer_view, read, survey};
+use pozqaben::{check, check_with, flatten, flatten_into, hardest_box, hardest_box_into, lay, lay_into, layer_view, read, survey};
+use pozqaben::{unflatten, unflatten_into};
 use pozqaben::{Kind, Laid, Reading, Refusal, Survey};
 use slow::tickets::{rings, DOCUMENT};
 use slow::{widest, BOX, CHANNEL, ROW, TWO_LAYER};
@@ -67,6 +68,18 @@ fn smallest_hardest_box() {
     assert_eq!(survey(&t).unwrap().to_string(), "box length 1 width 1 nets 2 pins 4 across 2 up 2 layers 6 floor 4");
 }
 
+/// North 1 and empty, south 2 1, west 2, east empty.
+#[test]
+fn small_flat_box() {
+    let (t, flat) = ([3, 2, 1, 7, 1, 1, 3, 2, 1, 1, 2], [3, 2, 1, 1, 0, 2, 1, 2, 0]);
+    assert_eq!((flatten(&t).as_deref(), unflatten(&flat).as_deref()), (Ok(&flat[..]), Ok(&t[..])));
+    let mut buffer = [9; 12];
+    assert_eq!(flatten_into(&t, &mut buffer), Ok(flat.len()));
+    assert_eq!(buffer[..], [&flat[..], &[9, 9, 9]].concat());
+    assert_eq!(unflatten_into(&flat, &mut buffer), Ok(t.len()));
+    assert_eq!(buffer[..], [&t[..], &[9]].concat());
+}
+
 #[test]
 fn limits_of_the_document() {
     assert_eq!((pozqaben::LONGEST_SIDE, pozqaben::WIDEST_GRID), (slow::LONGEST_SIDE, slow::WIDEST_GRID));
@@ -74,6 +87,7 @@ fn limits_of_the_document() {
     kinds.iter().for_each(|(kind, number)| assert_eq!(kind.widest(), widest(*number), "{kind:?}"));
     assert_eq!((pozqaben::MOST_LAYERS, pozqaben::MOST_TRUNK_LAYERS), (slow::MOST_LAYERS, slow::MOST_TRUNK_LAYERS));
     assert_eq!((pozqaben::LARGEST_NET, pozqaben::LONGEST_TICKET), (slow::LARGEST_NET, slow::LONGEST_TICKET));
+    assert_eq!(pozqaben::LONGEST_FLAT, slow::LONGEST_FLAT);
 }
 
 #[test]
@@ -126,5 +140,24 @@ fn refused_buffers_and_wirings() {
 fn refused_hardest_boxes() {
     say(hardest_box(0, 12), "refused 18 at 0: a side of the box, n or w, is none of 1 to 90");
     say(hardest_box(40, 91), "refused 18 at 0: a side of the box, n or w, is none of 1 to 90");
-    say(hardest_box_into(40, 12, &mut [0; 121]), "refused 19 at 122: the buffer is shorter than the 122 bytes that the ticket takes");
+    say(hardest_box_into(40, 12, &mut [0; 121]), "refused 19 at 122: the buffer is shorter than the 122 bytes that are to be written");
+}
+
+#[test]
+fn refused_flat_tickets() {
+    say(unflatten(&[1, 3, 1, 4, 4]), "refused 1 at 5: the ticket ends after 5 bytes, before one that is needed");
+    say(unflatten(&[0, 1, 1, 0]), "refused 2 at 0: byte 0, the kind, is none of 1 (row), 2 (channel), 3 (box) and 4 (two-layer channel)");
+    say(unflatten(&[1, 91, 1, 0]), "refused 3 at 1: byte 1, the length n, is none of 1 to 90");
+    say(
+        unflatten(&[4, 1, 2, 0]),
+        "refused 4 at 2: byte 2 is none of 1 to 90 (the width of a box) or of 1 to 8 (the trunk layers of a row or channel), \
+         or is not 1 (a two-layer channel)",
+    );
+    say(unflatten(&[1, 2, 1, 181, 0]), "refused 7 at 3: the net number at byte 3 is none of 1 to 180");
+    say(unflatten(&[1, 2, 1, 4, 4, 0]), "refused 8 at 5: bytes are left over from byte 5 on");
+    say(unflatten(&[1, 2, 1, 0, 4]), "refused 9 at 4: net 4 has one pin only");
+    let row = [1, 2, 1, 1, 3, 4, 4];
+    say(flatten(&row[..6]), "refused 1 at 6: the ticket ends after 6 bytes, before one that is needed");
+    say(flatten_into(&row, &mut [0; 4]), "refused 19 at 5: the buffer is shorter than the 5 bytes that are to be written");
+    say(unflatten_into(&[1, 2, 1, 4, 4], &mut [0; 6]), "refused 19 at 7: the buffer is shorter than the 7 bytes that are to be written");
 }

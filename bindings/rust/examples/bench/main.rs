@@ -2,14 +2,14 @@
 //!
 //! Lay is held against plain code for the same construction and, as the limit to look at, against memset of the bytes that it
 //! writes; of two-layer channels against Lay of a channel; Check against a plain flood fill of the same wiring; a ticket that is
-//! written against reading it.
+//! written, or turned flat and back, against reading it.
 
 mod flood;
 mod plain;
 mod wirings;
 
 use flood::Flood;
-use pozqaben::{check_with, hardest_box_into, lay_into, read, survey, LONGEST_TICKET};
+use pozqaben::{check_with, flatten_into, hardest_box_into, lay_into, read, survey, unflatten_into, LONGEST_FLAT, LONGEST_TICKET};
 use slow::tickets::{a_net_less, a_pin_less, encode, of_shape, rings, slots, Numbers, Places};
 use slow::{BOX, CHANNEL, LONGEST_SIDE, MOST_LAYERS, ROW, TWO_LAYER};
 use std::cell::{Cell, RefCell, RefMut};
@@ -210,6 +210,38 @@ fn written_table() {
     }
 }
 
+/// A ticket is turned flat, and back, and read.
+fn flat_table(r: &mut Numbers) {
+    println!("\n| ticket | bytes | flat bytes | flatten, µs | unflatten, µs | read, µs | flatten / read | unflatten / read |");
+    println!("|---|---|---|---|---|---|---|---|");
+    let side = LONGEST_SIDE;
+    let shapes = [
+        ("box 4 × 1", BOX, 4, 1, 10),
+        ("row of 90", ROW, side, 1, 10),
+        ("channel of 90", CHANNEL, side, 1, 10),
+        ("two-layer channel of 90", TWO_LAYER, side, 1, 10),
+        ("box 90 × 90", BOX, side, side, 10),
+        ("box 90 × 90, half full", BOX, side, side, 5),
+    ];
+    for (name, kind, n, byte2, tenths) in shapes {
+        let ticket = of_shape(r, kind, n, byte2, tenths);
+        let flat = pozqaben::flatten(&ticket).expect("a good ticket");
+        let (mut flat_buffer, mut ticket_buffer) = ([0; LONGEST_FLAT], [0; LONGEST_TICKET]);
+        let flattening = &mut || {
+            black_box(flatten_into(black_box(&ticket), black_box(&mut flat_buffer))).expect("a good ticket");
+        };
+        let unflattening = &mut || {
+            black_box(unflatten_into(black_box(&flat), black_box(&mut ticket_buffer))).expect("a good flat ticket");
+        };
+        let reading = &mut || {
+            black_box(read(black_box(&ticket))).expect("a good ticket");
+        };
+        let times = seconds_of([flattening, unflattening, reading]);
+        let [a, b, c] = times.map(|time| time * 1e6);
+        println!("| {name} | {} | {} | {a:.2} | {b:.2} | {c:.2} | {:.2} | {:.2} |", ticket.len(), flat.len(), a / c, b / c);
+    }
+}
+
 fn main() {
     let r = &mut Numbers::new(601);
     println!("{} cores\n", std::thread::available_parallelism().map_or(1, |c| c.get()));
@@ -218,4 +250,5 @@ fn main() {
     check_table(r);
     call_table(r);
     written_table();
+    flat_table(r);
 }

@@ -30,6 +30,14 @@ pub fn hardest_box(n: usize, w: usize, ticket: &mut [u8], answer: &mut [u64]) ->
     unsafe { raw::pozqaben_hardest_box(n, w, ticket.as_mut_ptr(), ticket.len(), answer.as_mut_ptr(), answer.len()) }
 }
 
+pub fn flatten(ticket: &[u8], flat: &mut [u8], answer: &mut [u64]) -> bool {
+    unsafe { raw::pozqaben_flatten(ticket.as_ptr(), ticket.len(), flat.as_mut_ptr(), flat.len(), answer.as_mut_ptr(), answer.len()) }
+}
+
+pub fn unflatten(flat: &[u8], ticket: &mut [u8], answer: &mut [u64]) -> bool {
+    unsafe { raw::pozqaben_unflatten(flat.as_ptr(), flat.len(), ticket.as_mut_ptr(), ticket.len(), answer.as_mut_ptr(), answer.len()) }
+}
+
 /// No entry of an answer is so large.
 pub const MARK: u64 = 0xa5a5_a5a5_a5a5_a5a5;
 
@@ -75,29 +83,48 @@ fn pattern(at: usize, salt: u8) -> u8 {
     (at as u8).wrapping_mul(37).wrapping_add(salt)
 }
 
-/// Good tickets, damaged ones, and bytes that only begin like a ticket.
-pub fn ticket(r: &mut Numbers) -> Vec<u8> {
-    let t = random(r);
+/// The bytes as they are, damaged once or twice, or noise.
+fn good_or_not(r: &mut Numbers, good: Vec<u8>, noise: fn(&mut Numbers) -> Vec<u8>) -> Vec<u8> {
     match r.below(6) {
-        0 | 1 => t,
-        2 | 3 => damaged(r, &t),
+        0 | 1 => good,
+        2 | 3 => damaged(r, &good),
         4 => {
-            let once = damaged(r, &t);
+            let once = damaged(r, &good);
             if once.is_empty() {
                 once
             } else {
                 damaged(r, &once)
             }
         }
-        _ => {
-            let kind = r.below(TWO_LAYER as usize + 2);
-            let (n, byte2, sides) = (r.below(LONGEST_SIDE + 3), r.below(LONGEST_SIDE + 3), r.below(17));
-            let mut t = [kind, n, byte2, sides].map(|x| x as u8).to_vec();
-            let top = r.pick(&[2, 8, LARGEST_NET as usize + 10, 256]);
-            t.extend((0..r.below(40)).map(|_| r.below(top) as u8));
-            t
-        }
+        _ => noise(r),
     }
+}
+
+/// Good tickets, damaged ones, and bytes that only begin like a ticket.
+pub fn ticket(r: &mut Numbers) -> Vec<u8> {
+    let t = random(r);
+    good_or_not(r, t, |r| {
+        let kind = r.below(TWO_LAYER as usize + 2);
+        let (n, byte2, sides) = (r.below(LONGEST_SIDE + 3), r.below(LONGEST_SIDE + 3), r.below(17));
+        let mut t = [kind, n, byte2, sides].map(|x| x as u8).to_vec();
+        let top = r.pick(&[2, 8, LARGEST_NET as usize + 10, 256]);
+        t.extend((0..r.below(40)).map(|_| r.below(top) as u8));
+        t
+    })
+}
+
+/// Good flat tickets, damaged ones, and bytes that only begin like a flat ticket: few places, and about as many numbers.
+pub fn flat(r: &mut Numbers) -> Vec<u8> {
+    let flat = slow::flat::flatten(&random(r)).expect("a good ticket");
+    good_or_not(r, flat, |r| {
+        let (kind, n) = (r.below(TWO_LAYER as usize + 2), r.below(5));
+        let byte2 = if r.below(2) == 0 { 1 } else { r.below(5) };
+        let mut flat = [kind, n, byte2].map(|x| x as u8).to_vec();
+        let top = r.pick(&[2, 3, 6, LARGEST_NET as usize + 10, 256]);
+        let near = r.pick(&[n, 2 * n, 2 * n + 2 * byte2]) + usize::from(r.below(4) == 0);
+        flat.extend((0..near).map(|_| r.below(top) as u8));
+        flat
+    })
 }
 
 /// The largest and the smallest shapes, empty and full, and each header at the edge of its ranges.
