@@ -23,7 +23,7 @@ ghost use Rattle.ticket_sides.specs.Format.{valuesFrom};
 ghost use Rattle.output.specs.Writing.{Wrote};
 ghost use Rattle.output.specs.Building.{mostOutput, Says, Adds};
 ghost use Rattle.flat_law.specs.FlatBytes.{flatBytesOf};
-ghost use Rattle.flat_law.specs.Turning.{ticketForm, flatForm, Turns};
+ghost use Rattle.flat_law.specs.Conversion.{ticketForm, flatForm, Converts};
 
 // The places of a side, empty ones too.
 fn with_places(out: Output, nets: &[u8; LONGEST_SIDE], places: usize) -> Output
@@ -103,7 +103,7 @@ fn write_flat(q: Problem, flat: &mut [u8]) -> Written
 
 // Public call: the flat ticket that states what the ticket states, or the ticket's refusal, or 19.
 pub fn flatten(ticket: &[u8], flat: &mut [u8]) -> Written
-    ensures { λ r. ⌜ Turns ticketForm flatForm (now (ticket .entry)) (now (flat .entry)) (now (flat .exit)) r ⌝ }
+    ensures { λ r. ⌜ Converts ticketForm flatForm (now (ticket .entry)) (now (flat .entry)) (now (flat .exit)) r ⌝ }
 {
     let whole = ticket::parse(ticket);
     let refusal = whole.refusal;
@@ -116,7 +116,7 @@ pub fn flatten(ticket: &[u8], flat: &mut [u8]) -> Written
 
 // Public call: the ticket that states what the flat ticket states, or the flat ticket's refusal, or 19.
 pub fn unflatten(flat: &[u8], ticket: &mut [u8]) -> Written
-    ensures { λ r. ⌜ Turns flatForm ticketForm (now (flat .entry)) (now (ticket .entry)) (now (ticket .exit)) r ⌝ }
+    ensures { λ r. ⌜ Converts flatForm ticketForm (now (flat .entry)) (now (ticket .entry)) (now (ticket .exit)) r ⌝ }
 {
     let whole = parse_flat(flat);
     let refusal = whole.refusal;

@@ -14,7 +14,7 @@ use Rattle.ticket.specs.Read.{problemAt}
 use Rattle.ticket.proofs.Filled.{side-at}
 use Rattle.ticket_bytes.proofs.BytesBack.{regrouped}
 use Rattle.ticket_bytes.proofs.ListBack.{values-drop}
-use Rattle.flat_reader.specs.Flat.{placesIn, startOf, placeCount, flatPins, flatTicketOf}
+use Rattle.flat_reader.specs.Flat.{placesIn, placesFrom, placeCount, flatPins, flatTicketOf}
 use Rattle.flat_reader.proofs.Passed.{FlatRead, flat-passed, side-end, few}
 use Rattle.flat_law.specs.FlatBytes.{flatOn, flatBytesOf}
 
@@ -22,26 +22,26 @@ abbrev problem : List ℕ → Problem
 problem s = problemAt s (netCount (pinsIn (flatPins s))) (flatPins s)
 
 module _ (s : List ℕ) (r : FlatRead s) where
-  pin-at : (side : Side) (a : ℕ) → In a (placesIn s side) → pinsIn (flatPins s) side a ≡ byte s (startOf s side + (a - 1))
+  pin-at : (side : Side) (a : ℕ) → In a (placesIn s side) → pinsIn (flatPins s) side a ≡ byte s (placesFrom s side + (a - 1))
   pin-at north a = side-at _ (placesIn s north) a (few s (r .head) north)
   pin-at south a = side-at _ (placesIn s south) a (few s (r .head) south)
   pin-at west a = side-at _ (placesIn s west) a (few s (r .head) west)
   pin-at east a = side-at _ (placesIn s east) a (few s (r .head) east)
 
   -- what a side lists stands before the rest
-  side-back : (side : Side) → flatOn (problem s) side ++ drop (startOf s side + placesIn s side) s ≡ drop (startOf s side) s
+  side-back : (side : Side) → flatOn (problem s) side ++ drop (placesFrom s side + placesIn s side) s ≡ drop (placesFrom s side) s
   side-back side =
-      values-drop s (pinsIn (flatPins s) side) 1 (startOf s side) (placesIn s side)
+      values-drop s (pinsIn (flatPins s) side) 1 (placesFrom s side) (placesIn s side)
       (omega (arith, r .size, side-end s side))
       (λ x lt.
       let back : 1 + x - 1 ≡ x = omega arith in
-      pin-at side (1 + x) (omega arith) ∙ ap (λ (j : ℕ). byte s (startOf s side + j)) back)
+      pin-at side (1 + x) (omega arith) ∙ ap (λ (j : ℕ). byte s (placesFrom s side + j)) back)
 
   problem-back : flatBytesOf (problem s) ≡ s
   unfolding flatBytesOf placeCount valuesFrom
   problem-back =
       let q = problem s in
-      let end : length s ≤ startOf s east + placesIn s east = omega (arith, r .size) in
+      let end : length s ≤ placesFrom s east + placesIn s east = omega (arith, r .size) in
       regrouped (byte s 0 ∷ byte s 1 ∷ byte s 2 ∷ []) (flatOn q north) (flatOn q south) (flatOn q west) (flatOn q east)
       ∙ rw (← drop-of-length-le s end, side-back east, side-back west, side-back south, side-back north)
       (values-drop s (byte s) 0 0 3 (omega (arith, r .head .size)) (λ x lt. refl))

@@ -28,7 +28,7 @@ use Rattle.ticket_bytes.proofs.Header.{fields-read}
 use Rattle.ticket_bytes.proofs.Parts.{Part, whole, front, back}
 use Rattle.ticket_bytes.proofs.ReadBack.{judged-read}
 use Rattle.ticket_bytes.proofs.Sides.{nets-read}
-use Rattle.flat_reader.specs.Flat.{placesOn, placesIn, startOf, placeCount, flatHeader, placesEnd, flatPins, flatTicketOf}
+use Rattle.flat_reader.specs.Flat.{placesOn, placesIn, placesFrom, placeCount, flatHeader, placesEnd, flatPins, flatTicketOf}
 use Rattle.flat_reader.proofs.Sides.{places-le, own}
 use Rattle.flat_law.specs.FlatBytes.{flatOn, flatBytesOf}
 use Rattle.flat_law.proofs.Sizes.{flat-length}
@@ -70,14 +70,14 @@ module _ (q : Problem) where
   all-part =
       back (q .kind ∷ q .n .0 ∷ q .byte2 ∷ []) (flatOn q north ++ fromSouth) (subst (Part flat 0) (simp append-assoc) (whole flat))
 
-  side-part : (side : Side) → Part flat (startOf flat side) (flatOn q side)
+  side-part : (side : Side) → Part flat (placesFrom flat side) (flatOn q side)
   unfolding flatBytesOf
   side-part north = front (flatOn q north) fromSouth all-part
   side-part south = front (flatOn q south) fromWest (behind _ _ fromSouth all-part)
   side-part west = front (flatOn q west) (flatOn q east) (behind _ _ fromWest (behind _ _ fromSouth all-part))
   side-part east = behind _ _ (flatOn q east) (behind _ _ fromWest (behind _ _ fromSouth all-part))
 
-  place-at : (side : Side) (j : ℕ) → j < placesOf side → byte flat (startOf flat side + j) ≡ pinsIn (q .pins) side (1 + j)
+  place-at : (side : Side) (j : ℕ) → j < placesOf side → byte flat (placesFrom flat side + j) ≡ pinsIn (q .pins) side (1 + j)
   place-at side j h = side-part side .here j (rw length-values h) ∙ getD-values (pinsIn (q .pins) side) 1 (placesOf side) j h
 
 -- ---- a side's list
@@ -139,10 +139,10 @@ module _ (q : Problem) (good : Good q) (sized : Sized q) where
       (λ j h. (omega arith, rw (all-part q .here j (simp (length-append, length-values) (omega (arith, count-same)))) (all-small j)))
 
   side-read : (side : Side) (l : List ℕ) → length l ≡ longestSide → ((a : ℕ) → pinsIn (q .pins) side a ≡ entry l a)
-      → netList (flat q) (startOf (flat q) side) (placesIn (flat q) side) ≡ l
+      → netList (flat q) (placesFrom (flat q) side) (placesIn (flat q) side) ≡ l
   unfolding flatBytesOf
   side-read side l size same =
-      list-read (flat q) l (startOf (flat q) side) (placesOf q side) (few side) size (λ j h. place-at q side j h ∙ same (1 + j))
+      list-read (flat q) l (placesFrom (flat q) side) (placesOf q side) (few side) size (λ j h. place-at q side j h ∙ same (1 + j))
       (λ a h. sym (same a) ∙ past side a h)
 
   pins-read : flatPins (flat q) ≡ q .pins

@@ -1,5 +1,5 @@
--- The sizes of what is turned: an accepted reading of either form has lists of 90 numbers, as its definition makes them; a flat ticket has
--- three bytes and one for each place, by the lengths of its parts, and so at most 363.
+-- The sizes of what is converted: an accepted reading of either form has lists of 90 numbers, as its definition makes them; a flat ticket
+-- has three bytes and one for each place, by the lengths of its parts, and so at most 363.
 use Prim.Native.Nat.{ℕ, _+_, _≤_}
 use mathlib.Core.List.{List}
 use mathlib.Core.Path.{_≡_, sym, subst}

@@ -1,2 +1,2 @@
 pub mod FlatBytes
-pub mod Turning
+pub mod Conversion

@@ -23,7 +23,7 @@ use Rattle.ticket.proofs.Filled.{side-at, side-past}
 use Rattle.ticket.proofs.Good.{stages, none-left, none-alone, problem-good}
 use Rattle.ticket.proofs.Laws.{Fields, start-good, nets-each, nets-extent}
 use Rattle.ticket.proofs.Sited.{fits}
-use Rattle.flat_reader.specs.Flat.{placesIn, startOf, placeCount, flatHeader, placesEnd, flatPins, flatTicketOf}
+use Rattle.flat_reader.specs.Flat.{placesIn, placesFrom, placeCount, flatHeader, placesEnd, flatPins, flatTicketOf}
 use Rattle.flat_reader.proofs.Sides.{places-le, lacked, own}
 
 -- ---- the header and the places
@@ -37,14 +37,14 @@ few s head side = places-le (byte s 0) (byte s 1) (byte s 2) side (head .one .1)
 
 -- the places of each side lie among all of them
 module _ (s : List ℕ) where
-  pub side-end : (side : Side) → startOf s side + placesIn s side ≤ 3 + placeCount s
+  pub side-end : (side : Side) → placesFrom s side + placesIn s side ≤ 3 + placeCount s
   unfolding placeCount
   side-end north = omega arith
   side-end south = omega arith
   side-end west = omega arith
   side-end east = omega arith
 
-  side-start : (side : Side) → 3 ≤ startOf s side
+  side-start : (side : Side) → 3 ≤ placesFrom s side
   side-start north = omega arith
   side-start south = omega arith
   side-start west = omega arith
@@ -55,18 +55,18 @@ module _ (s : List ℕ) (head : Header s) (read : placesEnd s .refusal .number �
   unfolding placesEnd
   places-end = nets-extent 0 s (placeCount s) 3 (omega (arith, head .size)) read
 
-  place-small : (side : Side) (a : ℕ) → In a (placesIn s side) → byte s (startOf s side + (a - 1)) ≤ largestNet
+  place-small : (side : Side) (a : ℕ) → In a (placesIn s side) → byte s (placesFrom s side + (a - 1)) ≤ largestNet
   unfolding placesEnd
   place-small side a i =
-      let up : 3 + (startOf s side + (a - 1) - 3) ≡ startOf s side + (a - 1) = omega (arith, side-start s side) in
+      let up : 3 + (placesFrom s side + (a - 1) - 3) ≡ placesFrom s side + (a - 1) = omega (arith, side-start s side) in
       subst (λ (j : ℕ). byte s j ≤ largestNet) up
       (nets-each 0 s (placeCount s) 3 _ read (omega (arith, side-start s side, side-end s side)) .small)
 
   abbrev placeByte : Side → ℕ → ℕ
-  placeByte side a = byte s (startOf s side + (a - 1))
+  placeByte side a = byte s (placesFrom s side + (a - 1))
 
   -- a side's list, by its places
-  small-list : (side : Side) (a : ℕ) → entry (netList s (startOf s side) (placesIn s side)) a ≤ largestNet
+  small-list : (side : Side) (a : ℕ) → entry (netList s (placesFrom s side) (placesIn s side)) a ≤ largestNet
   small-list side a =
       ⊎-elim
       (λ le.
@@ -84,10 +84,10 @@ module _ (s : List ℕ) (head : Header s) (read : placesEnd s .refusal .number �
   numbered east = small-list east
 
 pub past-places : (s : List ℕ) (side : Side) (a : ℕ) → placesIn s side < a → pinsIn (flatPins s) side a ≡ 0
-past-places s north a = side-past (λ a. byte s (startOf s north + (a - 1))) (placesIn s north) a
-past-places s south a = side-past (λ a. byte s (startOf s south + (a - 1))) (placesIn s south) a
-past-places s west a = side-past (λ a. byte s (startOf s west + (a - 1))) (placesIn s west) a
-past-places s east a = side-past (λ a. byte s (startOf s east + (a - 1))) (placesIn s east) a
+past-places s north a = side-past (λ a. byte s (placesFrom s north + (a - 1))) (placesIn s north) a
+past-places s south a = side-past (λ a. byte s (placesFrom s south + (a - 1))) (placesIn s south) a
+past-places s west a = side-past (λ a. byte s (placesFrom s west + (a - 1))) (placesIn s west) a
+past-places s east a = side-past (λ a. byte s (placesFrom s east + (a - 1))) (placesIn s east) a
 
 module _ (s : List ℕ) (fields : Fields (byte s 0) (byte s 1) (byte s 2)) where
   pub flat-bare : (side : Side) → hasSide (byte s 0) side ≡ false → (a : ℕ) → pinsIn (flatPins s) side a ≡ 0

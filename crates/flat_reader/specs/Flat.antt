@@ -4,7 +4,7 @@
 --   placesOn kind n byte2 side
 --                        how many places of a side are listed: "every place of every side the kind has"
 --   placesIn s side      the same, by bytes 0 to 2 of the flat ticket s
---   startOf s side       the byte of the side's first place: "bytes 0 to 2, then every place of every side .. (north; south; west; east)"
+--   placesFrom s side    the byte of the side's first place: "bytes 0 to 2, then every place of every side .. (north; south; west; east)"
 --   placeCount s         the places of all sides
 --   flatHeader s         "refused by the conditions of 1 to 4": the first four bytes, of which the fourth is a place already
 --   placesEnd s          all places, in byte order: the condition of 1, a byte missing, and of 7; "0 isn't refused in it"
@@ -31,11 +31,11 @@ placesOn kind n byte2 side = cond (hasSide kind side) (places (upright n byte2 1
 abbrev pub placesIn : List ℕ → Side → ℕ
 placesIn s side = placesOn (byte s 0) (byte s 1) (byte s 2) side
 
-abbrev pub startOf : List ℕ → Side → ℕ
-startOf s north = 3
-startOf s south = 3 + placesIn s north
-startOf s west = 3 + placesIn s north + placesIn s south
-startOf s east = 3 + placesIn s north + placesIn s south + placesIn s west
+abbrev pub placesFrom : List ℕ → Side → ℕ
+placesFrom s north = 3
+placesFrom s south = 3 + placesIn s north
+placesFrom s west = 3 + placesIn s north + placesIn s south
+placesFrom s east = 3 + placesIn s north + placesIn s south + placesIn s west
 
 unfoldable pub placeCount : List ℕ → ℕ
 placeCount s = placesIn s north + placesIn s south + placesIn s west + placesIn s east
@@ -49,10 +49,10 @@ placesEnd s = netsOf 0 s 3 (placeCount s)
 abbrev pub flatPins : List ℕ → Pins
 flatPins s =
     record {
-      north = netList s (startOf s north) (placesIn s north);
-      south = netList s (startOf s south) (placesIn s south);
-      west = netList s (startOf s west) (placesIn s west);
-      east = netList s (startOf s east) (placesIn s east);
+      north = netList s (placesFrom s north) (placesIn s north);
+      south = netList s (placesFrom s south) (placesIn s south);
+      west = netList s (placesFrom s west) (placesIn s west);
+      east = netList s (placesFrom s east) (placesIn s east);
     }
 
 unfoldable pub flatTicketOf : List ℕ → Reading

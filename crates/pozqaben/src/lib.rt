@@ -18,7 +18,7 @@ ghost use Rattle.ticket.specs.Read.{ticketOf, readOf};
 ghost use Rattle.survey.specs.Survey.{surveyOf};
 ghost use Rattle.router.specs.Lay.{layOf, Lays};
 ghost use Rattle.hardest_law.specs.Hardest.{hardestAnswer, WritesHardest};
-ghost use Rattle.flat_law.specs.Turning.{ticketForm, flatForm, turnedAnswer, Turns};
+ghost use Rattle.flat_law.specs.Conversion.{ticketForm, flatForm, convertedAnswer, Converts};
 ghost use Rattle.pozqaben.specs.Answers.{bit, readEntries, surveyEntries, layEntries, checkEntries, viewEntries, writtenEntries};
 ghost use Rattle.pozqaben.specs.Answers.{partTold, Answered, Tells};
 
@@ -253,11 +253,11 @@ pub extern "C" fn pozqaben_hardest_box(
 // A ticket turned flat: number, place, length.
 #[no_mangle]
 pub extern "C" fn pozqaben_flatten(ticket: &[u8], flat: &mut [u8], answer: &mut [u64]) -> bool
-    ensures answer { λ r. ⌜ Answered (writtenEntries (turnedAnswer ticketForm flatForm (now (ticket .entry)) (length (now (flat .entry)))))
-        (now (answer .entry)) r (now (answer .exit)) ⌝ }
+    ensures answer { λ r. ⌜ Answered (writtenEntries (convertedAnswer ticketForm flatForm (now (ticket .entry))
+        (length (now (flat .entry))))) (now (answer .entry)) r (now (answer .exit)) ⌝ }
     ensures short { λ r. ⌜ (r ≡ false → now (flat .exit) ≡ now (flat .entry)) ⌝ }
-    ensures turns { λ r. ⌜ (r ≡ true → Turns ticketForm flatForm (now (ticket .entry)) (now (flat .entry)) (now (flat .exit))
-        (turnedAnswer ticketForm flatForm (now (ticket .entry)) (length (now (flat .entry))))) ⌝ }
+    ensures converts { λ r. ⌜ (r ≡ true → Converts ticketForm flatForm (now (ticket .entry)) (now (flat .entry)) (now (flat .exit))
+        (convertedAnswer ticketForm flatForm (now (ticket .entry)) (length (now (flat .entry))))) ⌝ }
 {
     if answer.len() < WRITTEN_ENTRIES {
         return false;
@@ -270,11 +270,11 @@ pub extern "C" fn pozqaben_flatten(ticket: &[u8], flat: &mut [u8], answer: &mut 
 // A flat ticket turned into a ticket: number, place, length.
 #[no_mangle]
 pub extern "C" fn pozqaben_unflatten(flat: &[u8], ticket: &mut [u8], answer: &mut [u64]) -> bool
-    ensures answer { λ r. ⌜ Answered (writtenEntries (turnedAnswer flatForm ticketForm (now (flat .entry)) (length (now (ticket .entry)))))
-        (now (answer .entry)) r (now (answer .exit)) ⌝ }
+    ensures answer { λ r. ⌜ Answered (writtenEntries (convertedAnswer flatForm ticketForm (now (flat .entry))
+        (length (now (ticket .entry))))) (now (answer .entry)) r (now (answer .exit)) ⌝ }
     ensures short { λ r. ⌜ (r ≡ false → now (ticket .exit) ≡ now (ticket .entry)) ⌝ }
-    ensures turns { λ r. ⌜ (r ≡ true → Turns flatForm ticketForm (now (flat .entry)) (now (ticket .entry)) (now (ticket .exit))
-        (turnedAnswer flatForm ticketForm (now (flat .entry)) (length (now (ticket .entry))))) ⌝ }
+    ensures converts { λ r. ⌜ (r ≡ true → Converts flatForm ticketForm (now (flat .entry)) (now (ticket .entry)) (now (ticket .exit))
+        (convertedAnswer flatForm ticketForm (now (flat .entry)) (length (now (ticket .entry))))) ⌝ }
 {
     if answer.len() < WRITTEN_ENTRIES {
         return false;
