@@ -1,4 +1,4 @@
--- Laws of painting: byte by byte, in the middle of a buffer, row by row, eight rows at a time, and layer by layer.
+-- Laws of painting: byte by byte, in the first row, in the middle of a buffer, row by row, eight rows at a time, and layer by layer.
 use Prim.Native.Nat.{ℕ, zero, suc, _+_, _*_, _-_, _/_, _%_, _≤_, _<_}
 use mathlib.Core.Path.{_≡_, refl, sym, ap, ap₂, subst, _∙_}
 use mathlib.Core.Logic.{_⊎_, inl, inr, ⊎-elim, by-cases}
@@ -6,7 +6,7 @@ use mathlib.Core.List.{List}
 use native.Mathlib.Omega.{arith}
 use native.Mathlib.Decide.{ℕ-discrete, decLt}
 use native.Mathlib.Nat.{zero-mul, add-sub-cancel-left, mul-one, suc-mul, mul-add, add-mul, mul-assoc, mul-comm, mul-left-comm, mul-le-mul-right}
-use native.Mathlib.Nat.{lt-of-mul-lt-mul-right}
+use native.Mathlib.Nat.{lt-of-mul-lt-mul-right, le-mul-of-pos-right}
 use native.Mathlib.Numerals.{add-one}
 use mathlib.Core.List.{_++_}
 use lib.ListN.{length, getD, set, take, drop, length-set, length-take, length-drop, length-append, List·getD-append}
@@ -43,16 +43,20 @@ upto-all {before} {after} {n} {f} h u = record { long = u .long; here = λ i j h
     at : (i j : ℕ) → i < n → j ≡ 0 → getD after (j * length before + i) 0 ≡ f i j
     at i j hi e = rw e (ap (λ t. getD after t 0) (omega (arith, zero-mul (length before))) ∙ u .here i hi)
 
+-- the bytes of a single row
+pub row-bytes : {before after : List ℕ} {n : ℕ} {f : ℕ → ℕ → ℕ} → Striped before after n 1 f → (i : ℕ) → i < n → getD after i 0 ≡ f i 0
+row-bytes {after = after} {n = n} s i h = ap (λ (u : ℕ). getD after u 0) (omega (arith, zero-mul n)) ∙ s .here i 0 h (omega arith)
+
 -- a row of m bytes is m rows of one byte
-pub bytes-rows : {before after : List ℕ} {n m : ℕ} {v : ℕ → ℕ} {f : ℕ → ℕ → ℕ} → n ≡ 1 → length before ≡ m → ((j : ℕ) → v j ≡ f 0 j)
-    → Striped before after (length before) 1 (λ i j. v i) → Striped before after n m f
-bytes-rows {before} {after} {n} {m} {v} {f} one size same s = record {
+pub bytes-rows : {before after : List ℕ} {n k m : ℕ} {v : ℕ → ℕ} {f : ℕ → ℕ → ℕ} → n ≡ 1 → k ≡ m → ((j : ℕ) → v j ≡ f 0 j)
+    → Striped before after k 1 (λ i j. v i) → Striped before after n m f
+bytes-rows {after = after} {n = n} {f = f} one size same s = record {
   long = s .long;
   here = λ i j hi hj.
       let first : i ≡ 0 = omega arith in
       let place : j * n ≡ j = ap (λ (u : ℕ). j * u) one ∙ mul-one j in
-      ap (λ (u : ℕ). getD after u 0) (omega (arith, first, place, zero-mul (length before)))
-      ∙ s .here j 0 (omega arith) (omega arith) ∙ same j ∙ sym (ap (λ (u : ℕ). f u j) first);
+      ap (λ (u : ℕ). getD after u 0) (omega (arith, first, place)) ∙ row-bytes s j (omega arith) ∙ same j
+      ∙ sym (ap (λ (u : ℕ). f u j) first);
 }
 
 -- rows of as many bytes, with the same values
@@ -63,41 +67,41 @@ striped-as {before} {after} {m} {n} {w} {f} size same s = record {
   here = λ i j hi hj. ap (λ (u : ℕ). getD after (j * u + i) 0) (sym size) ∙ s .here i j (omega arith) hj ∙ same i j hi hj;
 }
 
--- ---- an array that holds a row: its first bytes are the values
+-- one row is its own copy
+pub one-row : {n w : ℕ} (part : List ℕ) → w ≡ 1 → Striped part part n w (λ i j. getD part i 0)
+one-row {n} part one = record {
+  long = refl;
+  here = λ i j hi hj.
+      let e : j * n ≡ 0 * n = ap (λ (u : ℕ). u * n) (omega arith) in
+      ap (λ (u : ℕ). getD part u 0) (omega (arith, zero-mul n));
+}
 
-pub record Holds (row values : List ℕ) : Type 0 where
-  pub long : length row ≡ longestSide
-  pub here : (i : ℕ) → i < length values → getD row i 0 ≡ getD values i 0
+-- ---- the first n bytes are lent, painted as a row and handed back
 
-module _ (values : List ℕ) (few : length values ≤ longestSide) where
-  pub first-size : (row : List ℕ) → length row ≡ longestSide → length (take (length values) row) ≡ length values
-  first-size row long = length-take-le (length values) row (omega arith)
+pub put-first : {m : ℕ} {ys : List ℕ} {f : ℕ → ℕ → ℕ} (n : ℕ) (xs : List ℕ) → n ≤ length xs → m ≡ n → Striped (take n xs) ys m 1 f
+    → Upto xs (ys ++ drop n xs) n (λ i. f i 0)
+put-first {ys = ys} n xs fits wide s = record {
+  long = length-append ys (drop n xs) ∙ omega (arith, many, length-drop n xs);
+  here = λ i h. List·getD-append ys (drop n xs) 0 i (omega (arith, many)) ∙ row-bytes s i (omega arith);
+}
+  where
+    many : length ys ≡ n
+    many = s .long ∙ length-take-le n xs fits
 
-  -- its first bytes are lent, copied to and handed back
-  pub holds-made : {ys : List ℕ} (blank : List ℕ) → length blank ≡ longestSide
-      → Striped (take (length values) blank) ys (length (take (length values) blank)) 1 (λ i j. getD values i 0)
-      → Holds (ys ++ drop (length values) blank) values
-  holds-made {ys} blank size s = record {
-    long = length-append ys rest ∙ omega (arith, many, length-drop (length values) blank);
-    here = λ i h.
-        List·getD-append ys rest 0 i (omega (arith, many)) ∙ ap (λ (u : ℕ). getD ys u 0) (omega (arith, zero-mul (length (take (length values) blank))))
-        ∙ s .here i 0 (omega (arith, first-size blank size)) (omega arith);
-  }
-    where
-      rest : List ℕ
-      rest = drop (length values) blank
+-- the first of w rows
+module _ (n w : ℕ) (part : List ℕ) (some : 1 ≤ w) (size : length part ≡ n * w) where
+  pub first-fits : n ≤ length part
+  first-fits = omega (arith, le-mul-of-pos-right n some)
 
-      many : length ys ≡ length values
-      many = s .long ∙ first-size blank size
+  pub first-size : length (take n part) ≡ n
+  first-size = length-take-le n part first-fits
 
-  pub held-size : {row : List ℕ} → Holds row values → length (take (length values) row) ≡ length values
-  held-size {row} r = first-size row (r .long)
-
-  -- rows of its first bytes are rows of the values
-  pub held-rows : {before after row : List ℕ} {w : ℕ} → Holds row values
-      → Striped before after (length (take (length values) row)) w (λ i j. getD (take (length values) row) i 0)
-      → Striped before after (length values) w (λ i j. getD values i 0)
-  held-rows {row = row} r s = striped-as (held-size r) (λ i j hi hj. getD-take (length values) row i 0 hi ∙ r .here i hi) s
+  -- it is painted, and all others become copies of it
+  pub first-repeated : {m : ℕ} {ys after : List ℕ} {f : ℕ → ℕ} → m ≡ n → Striped (take n part) ys m 1 (λ i j. f i)
+      → Striped (ys ++ drop n part) after n w (λ i j. getD (ys ++ drop n part) i 0) → Striped part after n w (λ i j. f i)
+  first-repeated wide s r =
+      let u = put-first n part first-fits wide s in
+      record { long = r .long ∙ u .long; here = λ i j hi hj. r .here i j hi hj ∙ u .here i hi }
 
 -- row j, and byte i of it, lie within w rows of n
 pub row-in : (n w j : ℕ) → j < w → j * n + n ≤ n * w

@@ -6,6 +6,8 @@ ghost use lib.ListN.{length, getD};
 ghost use Rattle.terms.specs.Limits.{longestSide};
 ghost use Rattle.paint.specs.Paint.{Striped, Block};
 use terms::LONGEST_SIDE;
+use terms::both;
+use terms::either;
 
 // The bytes of the longest row, eight times.
 const BLOCK: usize = 8 * LONGEST_SIDE;
@@ -92,30 +94,61 @@ fn wide_rows(part: &mut [u8], row: &[u8], w: usize)
     rows(&mut part[from..len], &b[..n], w - 8 * blocks);
 }
 
-// Of w tracks each is a copy of values, so that column i is values[i - 1] from end to end. The compiler knows that an array
-// held here is apart from the part, and copies its rows without a test.
+// Each row becomes a copy of the first, of at most 16 bytes, in a part of no fewer. The compiler knows that an array held here is apart
+// from the part, and copies its bytes without a test.
+fn repeat_narrow(part: &mut [u8], n: usize, w: usize)
+    requires { ⌜ (n ≤ 16) × (16 ≤ length (now part)) × (length (now part) ≡ n * w) ⌝ }
+    ensures { λ _. ⌜ Striped (now (part .entry)) (now (part .exit)) n w (λ i j. getD (now (part .entry)) i 0) ⌝ }
+{
+    let mut row: [u8; 16] = [0; 16];
+    copy(&mut row[..16], &part[..16]);
+    narrow_rows(part, &row[..], n, w);
+}
+
+// The same of rows that are no longer than the longest side.
+fn repeat_wide(part: &mut [u8], n: usize, w: usize)
+    requires { ⌜ (n ≤ longestSide) × (1 ≤ w) × (length (now part) ≡ n * w) ⌝ }
+    ensures { λ _. ⌜ Striped (now (part .entry)) (now (part .exit)) n w (λ i j. getD (now (part .entry)) i 0) ⌝ }
+{
+    let mut row: [u8; LONGEST_SIDE] = [0; LONGEST_SIDE];
+    copy(&mut row[..n], &part[..n]);
+    let r = &row[..];
+    wide_rows(part, &r[..n], w);
+}
+
+// Each of the w rows becomes a copy of the first, which has n bytes.
+pub fn repeat(part: &mut [u8], n: usize, w: usize)
+    requires { ⌜ (1 ≤ n) × (n ≤ longestSide) × (1 ≤ w) × (length (now part) ≡ n * w) ⌝ }
+    ensures { λ _. ⌜ Striped (now (part .entry)) (now (part .exit)) n w (λ i j. getD (now (part .entry)) i 0) ⌝ }
+{
+    if w == 1 {
+        return;
+    }
+    if n == 1 {
+        let v = part[0];
+        fill(part, v);
+        return;
+    }
+    if both(n <= 16, 16 <= part.len()) {
+        repeat_narrow(part, n, w);
+        return;
+    }
+    repeat_wide(part, n, w);
+}
+
+// Of w tracks each is a copy of values, so that column i is values[i - 1] from end to end.
 pub fn columns(part: &mut [u8], values: &[u8], w: usize)
     requires { ⌜ length (now part) ≡ length (now values) * w ⌝ }
     ensures { λ _. ⌜ Striped (now (part .entry)) (now (part .exit)) (length (now (values .entry))) w
         (λ i j. getD (now (values .entry)) i 0) ⌝ }
 {
     let n = values.len();
-    if n == 1 {
-        fill(part, values[0]);
-        return;
-    }
-    if n > LONGEST_SIDE {
+    if either(either(n == 0, n > LONGEST_SIDE), w == 0) {
         rows(part, values, w);
         return;
     }
-    let mut row: [u8; LONGEST_SIDE] = [0; LONGEST_SIDE];
-    copy(&mut row[..n], values);
-    let r = &row[..];
-    if n <= 16 {
-        narrow_rows(part, r, n, w);
-        return;
-    }
-    wide_rows(part, &r[..n], w);
+    copy(&mut part[..n], values);
+    repeat(part, n, w);
 }
 
 // Row j is values[j - 1] in each of its n bytes.

@@ -1,82 +1,68 @@
--- Of each width the rows that its painter leaves are rows of the values.
-use Prim.Native.Nat.{ℕ, _*_, _≤_}
+-- The values are copied to the first row, and that to all others.
+use Prim.Native.Nat.{ℕ, _≤_}
 use mathlib.Core.Path.{_≡_, refl, sym, ap, _∙_}
+use mathlib.Core.Bool.{Bool, true, false, _||_, true≢false}
+use mathlib.Core.List.{List}
 use native.Mathlib.Omega.{arith}
-use native.Mathlib.Nat.{one-mul}
-use lib.ListN.{length, replicate, length-replicate}
+use lib.Dec.{eqb, ltb}
+use lib.ListN.{length}
 use borrow.Author.Needs.{needs}
+use borrow.Author.Tests.{eqb-false, ltb-false}
 use Rattle.terms.specs.Limits.{longestSide}
-use Rattle.paint.proofs.Laws.{bytes-rows, first-size, holds-made, held-size, held-rows, striped-as}
+use Rattle.paint.proofs.Laws.{first-fits, first-size, first-repeated}
 use Rattle.paint.proofs.columns.Statement.{statement}
 use Rattle.paint.proofs.columns.Tie as tie
 
-returns : tie.Need-returns
-returns c =
-    let c5 = c .before .before .before .before .before in
-    let c8 = c5 .before .before .before in
-    bytes-rows (c5 .if1 .taken) (c8 .pre ∙ ap (λ (u : ℕ). u * c8 .args .w) (c5 .if1 .taken) ∙ one-mul _) (λ j. refl) (c .before .before .fill .ensures)
+none-of : (a b c : Bool) → (a || b || c) ≡ false → (a ≡ false) × (b ≡ false) × (c ≡ false)
+none-of true b c e = absurd (true≢false e)
+none-of false true c e = absurd (true≢false e)
+none-of false false c e = (refl, refl, e)
 
--- the array before the values are copied to it
-blank-long : length {A = ℕ} (replicate longestSide 0) ≡ longestSide
-blank-long = length-replicate {A = ℕ} longestSide 0
+-- what the failed test says
+in-bounds : {r s : Bool} (values : List ℕ) (w : ℕ) → r ≡ (eqb (length values) 0 || ltb longestSide (length values))
+    → s ≡ (r || eqb w 0) → s ≡ false → (1 ≤ length values) × (length values ≤ longestSide) × (1 ≤ w)
+in-bounds values w d e f =
+    let n = length values in
+    let (a, b, c) = none-of (eqb n 0) (ltb longestSide n) (eqb w 0) (ap (λ (u : Bool). u || eqb w 0) (sym d) ∙ sym e ∙ f) in
+    (omega (arith, eqb-false n 0 a), ltb-false longestSide n b, omega (arith, eqb-false w 0 c))
+
+slice-relend-prefix-copy : tie.Need-slice-relend-prefix-copy
+slice-relend-prefix-copy c =
+    let c5 = c .before .before .before .before .before in
+    let b = in-bounds (c5 .args .values .now) _ (c .before .before .either .ensures) (c .before .either2 .ensures) (c .if1 .left) in
+    first-fits _ (c5 .args .w) (c5 .args .part .now) (b .2) (c5 .pre)
 
 slice-aggregate-copy : tie.Need-slice-aggregate-copy
 slice-aggregate-copy c =
-    sym (first-size (c .before .before .before .before .before .args .values .now) (omega (arith, c .before .if2 .left)) _ blank-long)
+    let c3 = c .before .before .before in
+    let c6 = c3 .before .before .before in
+    let b = in-bounds (c6 .args .values .now) _ (c3 .either .ensures) (c .before .before .either2 .ensures) (c .before .if1 .left) in
+    sym (first-size _ (c6 .args .w) (c6 .args .part .now) (b .2) (c6 .pre))
 
 copy-requires : tie.Need-copy-requires
 copy-requires c κs =
-    first-size (c .before .before .before .before .before .args .values .now) (omega (arith, c .before .if2 .left)) _ blank-long
+    let c3 = c .before .before .before in
+    let c6 = c3 .before .before .before in
+    let b = in-bounds (c6 .args .values .now) _ (c3 .either .ensures) (c .before .before .either2 .ensures) (c .before .if1 .left) in
+    first-size _ (c6 .args .w) (c6 .args .part .now) (b .2) (c6 .pre)
 
-slice-aggregate-r : tie.Need-slice-aggregate-r
-slice-aggregate-r c =
-    let c2 = c .before .before in
-    let c4 = c2 .before .before in
-    sym (holds-made (c4 .before .before .before .before .args .values .now) (omega (arith, c4 .if2 .left)) _ blank-long (c2 .copy .ensures) .long)
-
-narrow-rows-requires : tie.Need-narrow-rows-requires
-narrow-rows-requires c κs =
-    let c4 = c .before .before .before .before in
-    let c6 = c4 .before .before in
-    let c10 = c6 .before .before .before .before in
-    let row = holds-made (c10 .args .values .now) (omega (arith, c6 .if2 .left)) _ blank-long (c4 .copy .ensures) in
-    (c .before .if3 .taken, omega (arith, row .long), c10 .pre)
-
-returns-3 : tie.Need-returns-3
-returns-3 c =
-    let c7 = c .before .before .before .before .before .before .before in
-    let c9 = c7 .before .before in
-    let row = holds-made (c9 .before .before .before .before .args .values .now) (omega (arith, c9 .if2 .left)) _ blank-long (c7 .copy .ensures) in
-    striped-as refl (λ i j hi hj. row .here i hi) (c .before .before .narrow-rows .ensures)
-
-slice-aggregate-wide-rows : tie.Need-slice-aggregate-wide-rows
-slice-aggregate-wide-rows c =
+repeat-requires : tie.Need-repeat-requires
+repeat-requires c κs =
     let c5 = c .before .before .before .before .before in
-    let c7 = c5 .before .before in
-    let values = c7 .before .before .before .before .args .values .now in
-    let few : length values ≤ longestSide = omega (arith, c7 .if2 .left) in
-    sym (held-size values few (holds-made values few _ blank-long (c5 .copy .ensures)))
+    let c10 = c5 .before .before .before .before .before in
+    let b = in-bounds (c10 .args .values .now) _ (c5 .before .before .either .ensures) (c5 .before .either2 .ensures) (c5 .if1 .left) in
+    (b .0, b .1, b .2, search needs)
 
-wide-rows-requires : tie.Need-wide-rows-requires
-wide-rows-requires c κs =
-    let c5 = c .before .before .before .before .before in
-    let c7 = c5 .before .before in
-    let c11 = c7 .before .before .before .before in
-    let values = c11 .args .values .now in
-    let few : length values ≤ longestSide = omega (arith, c7 .if2 .left) in
-    let size = held-size values few (holds-made values few _ blank-long (c5 .copy .ensures)) in
-    (omega (arith, size, few), c11 .pre ∙ sym (ap (λ (u : ℕ). u * c11 .args .w) size))
-
-returns-4 : tie.Need-returns-4
-returns-4 c =
+returns-2 : tie.Need-returns-2
+returns-2 c =
     let c8 = c .before .before .before .before .before .before .before .before in
-    let c10 = c8 .before .before in
-    let values = c10 .before .before .before .before .args .values .now in
-    let few : length values ≤ longestSide = omega (arith, c10 .if2 .left) in
-    held-rows values few (holds-made values few _ blank-long (c8 .copy .ensures)) (c .before .before .wide-rows .ensures)
+    let c13 = c8 .before .before .before .before .before in
+    let b = in-bounds (c13 .args .values .now) _ (c8 .before .before .either .ensures) (c8 .before .either2 .ensures) (c8 .if1 .left) in
+    let size = first-size _ (c13 .args .w) (c13 .args .part .now) (b .2) (c13 .pre) in
+    first-repeated _ _ (c13 .args .part .now) (b .2) (c13 .pre) size (c .before .before .before .before .before .before .copy .ensures)
+    (c .before .before .repeat .ensures)
 
 pub columns-spec : {M : Type 1} → statement M
 columns-spec =
-    tie.close (tie.spec (λ c. search needs) (λ c κs. search needs) (λ c. search needs) returns (λ c κs. search needs)
-    (λ c. search needs) (λ c. search needs) (λ c. search needs) slice-aggregate-copy copy-requires slice-aggregate-r
-    narrow-rows-requires (λ c. search needs) returns-3 slice-aggregate-wide-rows wide-rows-requires (λ c. search needs) returns-4)
+    tie.close (tie.spec (λ c κs. search needs) (λ c κs. search needs) (λ c κs. search needs) (λ c. search needs) (λ c. search needs)
+    slice-relend-prefix-copy slice-aggregate-copy copy-requires repeat-requires (λ c. search needs) returns-2)
