@@ -14,14 +14,11 @@ use Rattle.counting.proofs.Sums.{split, sum-change, sum-more, sum-grows, sum-pa
 use Rattle.counting.proofs.Counts.{count-same, count-le}
 use Rattle.terms.specs.Limits.{largestNet, netEntries}
 use Rattle.grid.specs.Legal.{entry, nets}
+use Rattle.orientation.proofs.Looks.{entry-at}
 use Rattle.switchbox_law.specs.Rules.{wanted}
 use Rattle.switchbox_law.specs.Drawing.{Lanes}
 use Rattle.lanes.specs.Tables.{mostLanes, Nets, tallies, Asked}
 use Rattle.lanes.specs.Placing.{Took, Listed, Distinct, Spread}
-
-entry-at : (xs : List ℕ) (j : ℕ) → 1 ≤ j → entry xs j ≡ getD xs (j - 1) 0
-entry-at xs zero h = absurd (omega arith)
-entry-at xs (suc j) h = ap (λ (i : ℕ). getD xs i 0) (omega arith)
 
 -- a net stands at a place of the side
 pub within : (own : List ℕ) (i : ℕ) → getD own i 0 ≢ 0 → i < length own

@@ -1,12 +1,13 @@
 // Which nets of a box get a track or a column, and which one each gets: its lane. The rules are those of switchbox_law.
 // Every function here is for our own crates.
+use orientation::pin_on_line;
 use terms::LARGEST_NET;
 use terms::LONGEST_SIDE;
 use terms::NET_ENTRIES;
 use terms::both;
 use terms::either;
 use terms::wide;
-ghost use Rattle.terms.specs.Limits.{largestNet, netEntries, byteValues};
+ghost use Rattle.terms.specs.Limits.{longestSide, largestNet, netEntries, byteValues};
 ghost use mathlib.Core.Path.{_≡_};
 ghost use mathlib.Core.Bool.{false, not, cond, _&&_, _||_};
 ghost use Prim.Native.Nat.{ℕ, _+_, _-_, _<_, _≤_};
@@ -147,12 +148,13 @@ fn who_needs<'a>(
     out
 }
 
-// The net at place i + 1 of a side, 0 past its end.
-fn net_at(side: &[u8], i: usize) -> usize
-    ensures { λ r. ⌜ r ≡ getD (now (side .entry)) i 0 ⌝ }
+// The moved box's pin on line i + 1 of the ticket's side `own`, 0 past its end.
+fn net_at(own: &[u8], reversed: bool, i: usize) -> usize
+    requires { ⌜ length (now own) ≤ longestSide ⌝ }
+    ensures { λ r. ⌜ r ≡ getD (now (own .entry)) i 0 ⌝ }
 {
-    if i < side.len() {
-        return wide(side[i]);
+    if i < own.len() {
+        return wide(pin_on_line(own, reversed, i + 1));
     }
     0
 }
@@ -181,6 +183,7 @@ fn one_unless(b: bool) -> usize
 // nets that still need a lane, and `spare` lists the lanes that no net took, in order. No branch depends on the nets.
 fn take_own(
     own: &[u8],
+    reversed: bool,
     top: usize,
     left: &mut [bool; NET_ENTRIES],
     spare: &mut [u8; NET_ENTRIES],
@@ -193,7 +196,7 @@ fn take_own(
     let mut count: usize = 0;
     let mut i: usize = 0;
     while i < top {
-        let m = net_at(own, i);
+        let m = net_at(own, reversed, i);
         let taken = left[m];
         left[m] = false;
         lanes[i] = if_taken(taken, m);
@@ -251,14 +254,15 @@ fn fill_spare(
     lanes
 }
 
-// The tracks of a box, lanes 1 to top, from the counts of north, south, west and east and from the west side. (With the
-// counts of east, west, south and north and with the south side: its columns.)
+// The tracks of a box, lanes 1 to top, from the counts of north, south, west and east and from the west side, the ticket's side `own`,
+// reversed or not. (With the counts of east, west, south and north and with the south side: its columns.) Lanes are the ticket's lines.
 pub fn lanes<'a>(
     a: &'a [u8; NET_ENTRIES],
     b: &'a [u8; NET_ENTRIES],
     c: &'a [u8; NET_ENTRIES],
     d: &'a [u8; NET_ENTRIES],
     own: &[u8],
+    reversed: bool,
     top: usize,
     first: bool,
 ) -> [u8; MOST_LANES]
@@ -268,7 +272,7 @@ pub fn lanes<'a>(
 {
     let mut left = who_needs(a, b, c, d, first);
     let mut spare: [u8; NET_ENTRIES] = [0; NET_ENTRIES];
-    let placed = take_own(own, top, &mut left, &mut spare);
+    let placed = take_own(own, reversed, top, &mut left, &mut spare);
     let list = list_left(&left);
     let count = count_left(&left);
     fill_spare(placed, &spare, &list, count)

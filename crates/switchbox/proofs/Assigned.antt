@@ -1,7 +1,7 @@
 -- The tables of a box whose nets on just north and east are the most numerous corner kind are fit for the assignment of lanes,
 -- and with these lanes the box is laid.
 use Prim.Native.Nat.{ℕ, zero, suc, _+_, _*_, _≤_, _<_}
-use mathlib.Core.Path.{_≡_, refl, sym, ap, subst, _∙_, fun-ext}
+use mathlib.Core.Path.{_≡_, refl, sym, ap, subst₂, _∙_, fun-ext}
 use mathlib.Core.List.{List}
 use mathlib.Core.Bool.{Bool, true, false}
 use native.Mathlib.Omega.{arith}
@@ -9,21 +9,24 @@ use native.Mathlib.Nat.{add-mul, mul-le-mul-right}
 use lib.Dec.{eqb}
 use lib.ListN.{length, getD, take}
 use lib.Seq.{getD-take, length-take-le}
-use Rattle.counting.specs.Counting.{In, ceil}
+use Rattle.counting.specs.Counting.{In, count, ceil}
 use Rattle.counting.proofs.Counts.{count-same, count-le, ceil-le, round-up}
 use Rattle.terms.specs.Kinds.{Side, north, south, west, east}
 use Rattle.terms.specs.Limits.{largestNet, longestSide, netEntries}
-use Rattle.grid.specs.Legal.{entry, pinsOf}
-use Rattle.switchbox_law.specs.Rules.{Tally, tally, pair, wanted, needsTrack, diagonal, needsColumn}
+use Rattle.grid.specs.Grid.{places}
+use Rattle.grid.specs.Legal.{Pins, entry, pinsOf}
+use Rattle.grid.specs.Motion.{Orientation}
+use Rattle.orientation.specs.Lookup.{diagonal, ownSide, bySide, ownList, onLines}
+use Rattle.orientation.proofs.Looks.{side-pins}
+use Rattle.switchbox_law.specs.Rules.{Tally, tally, pair, wanted, needsTrack, needsColumn}
 use Rattle.switchbox_law.specs.Drawing.{Lanes, BoxLaid}
 use Rattle.switchbox_law.proofs.Enough.{enough-tracks, enough-columns}
 use Rattle.switchbox_law.proofs.FullLines.{drawn}
 use Rattle.nets.specs.Tables.{pinCountTo, NetTable}
 use Rattle.lanes.specs.Tables.{Nets, tallies, Asked}
 use Rattle.lanes.proofs.Wanting.{turn-same}
-use Rattle.switchbox.specs.Box.{standing, Upright, Canonical}
+use Rattle.switchbox.specs.Box.{standing, Canonical}
 use Rattle.switchbox.specs.Layers.{boxLines, Drawable}
-use Rattle.switchbox.proofs.Counts.{table-b, table-d}
 
 -- what is wanted of the nets up to m goes by their pins
 wanted-same : (first : Bool) (t t′ : ℕ → Tally) (m : ℕ) → ((j : ℕ) → In j m → t j ≡ t′ j) → wanted first t m ≡ wanted first t′ m
@@ -51,92 +54,148 @@ lanes-same {want} {want′} {own} {w} {k} s same le d = record {
     here zero h = absurd (omega arith)
     here (suc i) h = getD-take k s i 0 (omega arith)
 
-module _ {a b c d ca cb cc′ cd before : List ℕ} (box : Canonical a b c d ca cb cc′ cd before) where
-  abbrev up : Upright a b c d ca cb cc′ cd before
-  up = box .upright
+module _ {o : Orientation} {a b c d ca cb cc′ cd : List ℕ} {n w : ℕ} {before : List ℕ}
+    (box : Canonical o a b c d ca cb cc′ cd n w before) where
+  -- the moved box's pins and counts at its side s are the ticket's at another
+  abbrev p : Pins
+  p = onLines o (pinsOf a b c d)
 
-  north-counts : (m : ℕ) → In m largestNet → tallies ca cb cc′ cd m ≡ tally (standing (length a) (length c)) (pinsOf a b c d) m
+  abbrev counts : Side → List ℕ
+  counts s = ownList o ca cb cc′ cd s
+
+  own-pins : (s : Side) → onLines o (pinsOf a b c d) s ≡ entry (ownList o a b c d s)
+  own-pins s = side-pins a b c d (ownSide o s)
+
+  places-by : (s : Side) → length (ownList o a b c d s) ≡ places (standing n w) s
+  places-by north = box .sides .long north
+  places-by south = box .sides .long south
+  places-by west = box .sides .long west
+  places-by east = box .sides .long east
+
+  counted : (m : ℕ) → In m largestNet → (s : Side) → getD (ownList o ca cb cc′ cd s) m 0
+      ≡ tally (standing n w) (onLines o (pinsOf a b c d)) m s
+  counted m h s = box .counts (ownSide o s) .is m h
+      ∙ ap (λ (k : ℕ). count (λ i. eqb (entry (ownList o a b c d s) i) m) k) (places-by s)
+      ∙ ap (λ (f : ℕ → ℕ). count (λ i. eqb (f i) m) (places (standing n w) s)) (sym (own-pins s))
+
+  north-counts : (m : ℕ) → In m largestNet
+      → tallies (counts north) (counts south) (counts west) (counts east) m ≡ tally (standing n w) (onLines o (pinsOf a b c d)) m
   north-counts m h = fun-ext go
     where
-      go : (s : Side) → tallies ca cb cc′ cd m s ≡ tally (standing (length a) (length c)) (pinsOf a b c d) m s
-      go north = up .tables .norths .is m h
-      go south = table-b (up .tables) m h
-      go west = up .tables .wests .is m h
-      go east = table-d (up .tables) m h
+      go : (s : Side) → tallies (counts north) (counts south) (counts west) (counts east) m s
+          ≡ tally (standing n w) (onLines o (pinsOf a b c d)) m s
+      go north = counted m h north
+      go south = counted m h south
+      go west = counted m h west
+      go east = counted m h east
 
   east-counts : (m : ℕ) → In m largestNet
-      → _≡_ {A = Tally} (tallies cd cc′ cb ca m) (λ s. tally (standing (length a) (length c)) (pinsOf a b c d) m (diagonal s))
+      → _≡_ {A = Tally} (tallies (counts east) (counts west) (counts south) (counts north) m)
+      (λ s. tally (standing n w) (onLines o (pinsOf a b c d)) m (diagonal s))
   east-counts m h = fun-ext go
     where
-      go : (s : Side) → tallies cd cc′ cb ca m s ≡ tally (standing (length a) (length c)) (pinsOf a b c d) m (diagonal s)
-      go north = table-d (up .tables) m h
-      go south = up .tables .wests .is m h
-      go west = table-b (up .tables) m h
-      go east = up .tables .norths .is m h
+      go : (s : Side) → tallies (counts east) (counts west) (counts south) (counts north) m s
+          ≡ tally (standing n w) (onLines o (pinsOf a b c d)) m (diagonal s)
+      go north = counted m h east
+      go south = counted m h west
+      go west = counted m h south
+      go east = counted m h north
 
-  by-track : (m : ℕ) → In m largestNet → wanted true (tallies ca cb cc′ cd) m ≡ needsTrack (tally (standing (length a) (length c)) (pinsOf a b c d)) m
+  by-track : (m : ℕ) → In m largestNet
+      → wanted true (tallies (counts north) (counts south) (counts west) (counts east)) m ≡ needsTrack (tally (standing n w) p) m
   by-track m i = wanted-same true _ _ m (λ j l. north-counts j (omega arith))
 
-  by-column : (m : ℕ) → In m largestNet → wanted false (tallies cd cc′ cb ca) m ≡ needsColumn (tally (standing (length a) (length c)) (pinsOf a b c d)) m
+  by-column : (m : ℕ) → In m largestNet
+      → wanted false (tallies (counts east) (counts west) (counts south) (counts north)) m ≡ needsColumn (tally (standing n w) p) m
   by-column m i = wanted-same false _ _ m (λ j l. east-counts j (omega arith))
 
-  lanes-fit : (length a ≤ ceil (length a) (length c) * length c) × (ceil (length a) (length c) * length c < length a + length c)
-  lanes-fit = round-up (length a) (length c) (up .narrow)
+  lanes-fit : (n ≤ ceil n w * w) × (ceil n w * w < n + w)
+  lanes-fit = round-up n w (box .narrow)
 
-  pub tracks-asked : Asked ca cb cc′ cd c (ceil (length a) (length c) * length c) true
+  own-nets : (s : Side) → Nets (ownList o a b c d s)
+  own-nets s = box .sides .nets (ownSide o s)
+
+  few : (m : ℕ) (s : Side) → m < netEntries → getD (ownList o ca cb cc′ cd s) m 0 ≤ longestSide
+  few m s l = few-pins (ownList o a b c d s) (ownList o ca cb cc′ cd s) m (own-nets s) (box .counts (ownSide o s)) l
+
+  pub long-short : n ≤ longestSide
+  long-short = omega (arith, own-nets north .short, box .sides .long north)
+
+  pub tracks-asked : Asked (counts north) (counts south) (counts west) (counts east) (ownList o a b c d west) (ceil n w * w) true
   tracks-asked = record {
-    most = omega (arith, lanes-fit, up .tables .sides .norths .short, up .tables .sides .wests .short);
-    side = up .tables .sides .wests;
-    beside = omega (arith, lanes-fit, up .oblong);
-    fits = λ m l. omega (
-      arith,
-      few-pins a ca m (up .tables .sides .norths) (up .tables .norths) l,
-      few-pins b cb m (up .tables .sides .souths) (up .tables .souths) l,
-    );
-    room = omega (arith, count-same _ _ largestNet by-track, enough-tracks (standing (length a) (length c)) (pinsOf a b c d) (box .corner), lanes-fit);
+    most = omega (arith, lanes-fit, long-short, box .oblong);
+    side = own-nets west;
+    beside = omega (arith, lanes-fit, box .oblong, box .sides .long west);
+    fits = λ m l. omega (arith, few m north l, few m south l);
+    room = omega (arith, count-same _ _ largestNet by-track, enough-tracks (standing n w) p (box .corner), lanes-fit);
   }
 
-  pub columns-asked : Asked cd cc′ cb ca b (length a) false
+  pub columns-asked : Asked (counts east) (counts west) (counts south) (counts north) (ownList o a b c d south) n false
   columns-asked = record {
-    most = omega (arith, up .tables .sides .norths .short);
-    side = up .tables .sides .souths;
-    beside = omega (arith, up .tables .sides .long);
-    fits = λ m l. omega (
-      arith,
-      few-pins c cc′ m (up .tables .sides .wests) (up .tables .wests) l,
-      few-pins d cd m (up .tables .sides .easts) (up .tables .easts) l,
-    );
-    room = omega (arith, count-same _ _ largestNet by-column, enough-columns (standing (length a) (length c)) (pinsOf a b c d) (box .corner), up .oblong);
+    most = omega (arith, long-short);
+    side = own-nets south;
+    beside = omega (arith, box .sides .long south);
+    fits = λ m l. omega (arith, few m east l, few m west l);
+    room = omega (arith, count-same _ _ largestNet by-column, enough-columns (standing n w) p (box .corner), box .oblong);
   }
 
-  pub box-laid : (tracks columns : List ℕ)
-      → Lanes (wanted true (tallies ca cb cc′ cd)) (entry c) (length c) (ceil (length a) (length c) * length c) (entry tracks)
-      → Lanes (wanted false (tallies cd cc′ cb ca)) (entry b) (length b) (length a) (entry columns)
-      → BoxLaid (length a) (length c) (ceil (length a) (length c)) (pinsOf a b c d)
-      (boxLines (ceil (length a) (length c)) a b c d (take (ceil (length a) (length c) * length c) tracks) (take (length a) columns))
-      (entry (take (ceil (length a) (length c) * length c) tracks)) (entry (take (length a) columns))
+  -- lanes beside the places of a list are lanes beside those of the moved box's side
+  beside : {want : ℕ → Bool} {k : ℕ} {lane : ℕ → ℕ} (s : Side) (m : ℕ) → bySide n n w w s ≡ m
+      → Lanes want (entry (ownList o a b c d s)) (length (ownList o a b c d s)) k lane → Lanes want (onLines o (pinsOf a b c d) s) m k lane
+  beside {want} {k} {lane} s m e l =
+      subst₂ (λ (f : ℕ → ℕ) (v : ℕ). Lanes want f v k lane) (sym (own-pins s)) (box .sides .long s ∙ e) l
+
+  box-laid : (tracks columns : List ℕ)
+      → Lanes (wanted true (tallies (counts north) (counts south) (counts west) (counts east))) (entry (ownList o a b c d west))
+      (length (ownList o a b c d west)) (ceil n w * w) (entry tracks)
+      → Lanes (wanted false (tallies (counts east) (counts west) (counts south) (counts north))) (entry (ownList o a b c d south))
+      (length (ownList o a b c d south)) n (entry columns)
+      → BoxLaid n w (ceil n w) p (boxLines w (ceil n w) p (take (ceil n w * w) tracks) (take n columns))
+      (entry (take (ceil n w * w) tracks)) (entry (take n columns))
   box-laid tracks columns rows posts = record {
-    drawing = drawn (length a) (length c) (ceil (length a) (length c)) (pinsOf a b c d) _ _;
-    tracked = lanes-same tracks by-track (omega (arith, lanes-fit, up .oblong)) rows;
-    posted = lanes-same columns by-column (omega arith)
-        (subst (λ (n : ℕ). Lanes (wanted false (tallies cd cc′ cb ca)) (entry b) n (length a) (entry columns)) (up .tables .sides .long) posts);
+    drawing = drawn n w (ceil n w) p _ _;
+    tracked = lanes-same tracks by-track (omega (arith, lanes-fit, box .oblong)) (beside west w refl rows);
+    posted = lanes-same columns by-column (omega arith) (beside south n refl posts);
   }
 
   pub drawable : (tracks columns : List ℕ) → length tracks ≡ 2 * longestSide → length columns ≡ 2 * longestSide
-      → Drawable a b c d (take (ceil (length a) (length c) * length c) tracks) (take (length a) columns) (ceil (length a) (length c)) before
+      → Drawable o a b c d n w (take (ceil n w * w) tracks) (take n columns) (ceil n w) before
   drawable tracks columns lt lc = record {
     lined = record {
-      long = up .tables .sides .norths .short;
-      wide = up .tables .sides .wests .short;
-      across = up .tables .sides .long;
+      sides = box .sides;
+      long = omega (arith, long-short, box .narrow, box .oblong);
+      wide = omega (arith, long-short, box .narrow, box .oblong);
       lanes = length-take-le _ tracks (omega (arith, tracks-asked .most));
-      few = few;
-      room = omega (arith, up .room, add-mul (2 * ceil (length a) (length c)) 4 (length a * length c));
+      few = ceil-le n w longestSide (omega (arith, long-short, mul-le-mul-right longestSide (box .narrow)));
+      room = omega (arith, box .room, add-mul (2 * ceil n w) 4 (n * w));
     };
-    across = up .tables .sides .wide;
-    posts = length-take-le (length a) columns (omega (arith, columns-asked .most));
-    room = up .room;
+    posts = length-take-le n columns (omega (arith, columns-asked .most));
+    room = box .room;
   }
-    where
-      few : ceil (length a) (length c) ≤ longestSide
-      few = ceil-le (length a) (length c) longestSide (omega (arith, up .tables .sides .norths .short, mul-le-mul-right longestSide (up .narrow)))
+
+-- the lists that are looked up are the moved box's own: its counts ya to yd, and its west and south sides yw and ys
+pub record Found (o : Orientation) (a b c d ca cb cc cd ya yb yc yd yw ys : List ℕ) : Type 0 where
+  pub norths : ya ≡ ownList o ca cb cc cd north
+  pub souths : yb ≡ ownList o ca cb cc cd south
+  pub wests : yc ≡ ownList o ca cb cc cd west
+  pub easts : yd ≡ ownList o ca cb cc cd east
+  pub west-side : yw ≡ ownList o a b c d west
+  pub south-side : ys ≡ ownList o a b c d south
+
+module _ {o : Orientation} {a b c d ca cb cc′ cd ya yb yc yd yw ys : List ℕ} {n w : ℕ} {before : List ℕ}
+    (box : Canonical o a b c d ca cb cc′ cd n w before) (found : Found o a b c d ca cb cc′ cd ya yb yc yd yw ys) where
+  pub tracks-found : Asked ya yb yc yd yw (ceil n w * w) true
+  tracks-found = rw (found .norths, found .souths, found .wests, found .easts, found .west-side) (tracks-asked box)
+
+  pub columns-found : Asked yd yc yb ya ys n false
+  columns-found = rw (found .norths, found .souths, found .wests, found .easts, found .south-side) (columns-asked box)
+
+  pub laid-found : (tracks columns : List ℕ) → Lanes (wanted true (tallies ya yb yc yd)) (entry yw) (length yw) (ceil n w * w)
+      (entry tracks)
+      → Lanes (wanted false (tallies yd yc yb ya)) (entry ys) (length ys) n (entry columns)
+      → BoxLaid n w (ceil n w) (onLines o (pinsOf a b c d))
+      (boxLines w (ceil n w) (onLines o (pinsOf a b c d)) (take (ceil n w * w) tracks) (take n columns))
+      (entry (take (ceil n w * w) tracks)) (entry (take n columns))
+  laid-found tracks columns rows posts = box-laid box tracks columns
+      (rw (found .norths, found .souths, found .wests, found .easts, found .west-side) at rows)
+      (rw (found .norths, found .souths, found .wests, found .easts, found .south-side) at posts)

@@ -1,15 +1,21 @@
 -- Layers are painted one after the other, upright or turned, and the drawn layers are the wiring that the buffer holds.
 use Prim.Native.Nat.{ℕ, suc, _+_, _*_, _-_, _≤_, _<_}
-use mathlib.Core.Path.{_≡_, ap, _∙_}
+use mathlib.Core.Path.{_≡_, sym, ap, subst, subst₂, _∙_}
 use mathlib.Core.List.{List}
-use mathlib.Core.Bool.{Bool, true, false}
+use mathlib.Core.Bool.{Bool, true, false, not}
 use native.Mathlib.Nat.{mul-comm}
-use lib.ListN.{length}
+use lib.ListN.{length, getD}
 use borrow.Rule.Slice.PartMut.{midOf, putMid}
-use Rattle.grid.specs.Legal.{Wiring}
+use Rattle.counting.specs.Counting.{In}
+use Rattle.terms.specs.Kinds.{Side}
+use Rattle.terms.specs.Limits.{longestSide}
+use Rattle.grid.specs.Legal.{Wiring, entry, pinsOf}
+use Rattle.grid.specs.Motion.{Orientation}
+use Rattle.orientation.specs.Lookup.{ownSide, ownList, onLines}
+use Rattle.orientation.proofs.Looks.{side-pins}
 use Rattle.paint.specs.Paint.{Striped}
 use Rattle.paint.proofs.Laws.{drawn-none, drawn-part}
-use Rattle.switchbox.specs.Layers.{StripedAs, drawnAs, DrawnAs}
+use Rattle.switchbox.specs.Layers.{StripedAs, drawnAs, DrawnAs, Combed, CombAs}
 
 pub striped-plain : {before after : List ℕ} {n w : ℕ} {f : ℕ → ℕ → ℕ} (turned : Bool) → turned ≡ false → Striped before after n w f
     → StripedAs turned before after n w f
@@ -18,6 +24,45 @@ striped-plain turned e p = rw e (record { is = p })
 pub striped-turned : {before after : List ℕ} {n w : ℕ} {f : ℕ → ℕ → ℕ} (turned : Bool) → turned ≡ true → Striped before after w n (λ i j. f j i)
     → StripedAs turned before after n w f
 striped-turned turned e p = rw e (record { is = p })
+
+-- what is striped by tracks has its columns for tracks
+pub striped-flip : {before after : List ℕ} {n w : ℕ} {f : ℕ → ℕ → ℕ} (turned : Bool) → StripedAs (not turned) before after n w f
+    → StripedAs turned before after w n (λ i j. f j i)
+striped-flip false p = record { is = p .is }
+striped-flip true p = record { is = p .is }
+
+-- the ticket's list `own` has the pins of the moved box's side s
+pub record Own (o : Orientation) (a b c d : List ℕ) (s : Side) (own : List ℕ) : Type 0 where
+  pub is : own ≡ ownList o a b c d s
+
+-- its comb
+module _ {o : Orientation} {a b c d own : List ℕ} {s : Side} (found : Own o a b c d s own) where
+  held : entry own ≡ onLines o (pinsOf a b c d) s
+  held = ap entry (found .is) ∙ sym (side-pins a b c d (ownSide o s))
+
+  module _ {before after : List ℕ} {k : ℕ} (byTrack : Bool) where
+    pub comb-columns : byTrack ≡ false → Striped before after (length own) k (λ i j. getD own i 0) → CombAs byTrack o a b c d s k before after
+    comb-columns e p =
+        striped-plain byTrack e
+        (subst₂ (λ (l : List ℕ) (f : ℕ → ℕ). Striped before after (length l) k (λ i j. f (suc i))) (found .is) held p)
+
+    pub comb-tracks : byTrack ≡ true → Striped before after k (length own) (λ i j. getD own j 0) → CombAs byTrack o a b c d s k before after
+    comb-tracks e p =
+        striped-turned byTrack e
+        (subst₂ (λ (l : List ℕ) (f : ℕ → ℕ). Striped before after k (length l) (λ i j. f (suc j))) (found .is) held p)
+
+  -- the part has a line of length k for each of its places
+  pub combed-columns : {k : ℕ} {part : List ℕ} → Combed (ownList o a b c d s) k part
+      → In (length own) longestSide × (1 ≤ k) × (length part ≡ length own * k)
+  combed-columns {k} {part} h =
+      subst (λ (l : List ℕ). In (length l) longestSide × (1 ≤ k) × (length part ≡ length l * k)) (sym (found .is))
+      (h .short, h .some, h .size)
+
+  pub combed-tracks : {k : ℕ} {part : List ℕ} → Combed (ownList o a b c d s) k part
+      → (length own ≤ longestSide) × (length part ≡ k * length own)
+  combed-tracks {k} {part} h =
+      subst (λ (l : List ℕ). (length l ≤ longestSide) × (length part ≡ k * length l)) (sym (found .is))
+      (h .short .1, h .size ∙ mul-comm _ k)
 
 pub drawn-as-none : (turned : Bool) (n w : ℕ) (l : List ℕ) (x : Wiring) → DrawnAs turned n w l l 0 x
 drawn-as-none false n w l x = record { is = drawn-none n w l x }

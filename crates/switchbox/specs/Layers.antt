@@ -3,22 +3,29 @@
 --
 --   StripedAs turned before after n w f        the layer's part holds f i j in column i and track j, counted from 0
 --   DrawnAs turned n w before after top x      layers 1 to top hold the wiring x, and every byte past them is as it was
---   trackLines w q a b tracks                  the wiring of the combs of the sides a, north, and b, south, and of the tracks
---   Lined a b tracks w q wiring                these have the sizes for it, and the buffer is long enough for 2q layers
---   boxLines q a b c d tracks columns          the wiring of a box whose sides are a, b, c and d: north, south, west and east
---   Drawable a b c d tracks columns q wiring   these have the sizes for it, and the buffer is long enough
---   LaidAs turned n w a b c d before after     a wiring of the box is drawn whose lanes are assigned by the rules
---   Wired turned a b c d before after          a legal wiring of the box is drawn
-use Prim.Native.Nat.{ℕ, _+_, _*_, _≤_}
+--   Combed own k part                          the part has a line of length k for each place of the side `own`
+--   CombAs byTrack o a b c d s k before after  the layer is the comb of the moved box's side s: on each of the ticket's lines, of length k,
+--                                              stands the pin there; its lines are tracks where byTrack, else columns
+--   trackLines w q p tracks                    the wiring of the combs of north and south, whose pins are p, and of the tracks
+--   Lined o a b c d n w tracks q wiring        the box has n columns and w tracks when moved, and as many lanes as the q track layers
+--                                              have tracks; the buffer is long enough for 2q layers
+--   boxLines w q p tracks columns              the wiring of a box whose pins are p
+--   Drawable o a b c d n w tracks columns q wiring    there are n columns too, and the buffer is long enough
+--   LaidAs o n w p before after                a wiring of the box is drawn on the ticket's lines, its lanes assigned by the rules; n and w
+--                                              are those of the moved box
+use Prim.Native.Nat.{ℕ, suc, _+_, _*_, _≤_}
 use mathlib.Core.Path.{_≡_}
-use mathlib.Core.List.{List, []}
+use mathlib.Core.List.{List}
 use mathlib.Core.Bool.{Bool, true, false}
 use lib.ListN.{length}
-use Rattle.grid.specs.Legal.{Wiring, Legal, entry, pinsOf}
+use Rattle.grid.specs.Legal.{Pins, Wiring, entry, pinsOf}
+use Rattle.grid.specs.Motion.{Orientation}
+use Rattle.terms.specs.Kinds.{Side}
 use Rattle.terms.specs.Limits.{longestSide}
-use Rattle.counting.specs.Counting.{ceil}
+use Rattle.counting.specs.Counting.{In, ceil}
+use Rattle.orientation.specs.Lookup.{ownList, onLines}
 use Rattle.switchbox_law.specs.Drawing.{BoxLaid, fullLines}
-use Rattle.switchbox.specs.Box.{standing}
+use Rattle.switchbox.specs.Box.{Sides}
 use Rattle.paint.specs.Paint.{Striped, Drawn}
 
 abbrev pub stripedAs : Bool → List ℕ → List ℕ → ℕ → ℕ → (ℕ → ℕ → ℕ) → Type 0
@@ -35,34 +42,37 @@ pub record StripedAs (turned : Bool) (before after : List ℕ) (n w : ℕ) (f : 
 pub record DrawnAs (turned : Bool) (n w : ℕ) (before after : List ℕ) (top : ℕ) (x : Wiring) : Type 0 where
   pub is : drawnAs turned n w before after top x
 
-abbrev pub trackLines : ℕ → ℕ → List ℕ → List ℕ → List ℕ → Wiring
-trackLines w q a b tracks = fullLines w q (pinsOf a b [] []) (entry tracks) (λ i. 0)
+pub record Combed (own : List ℕ) (k : ℕ) (part : List ℕ) : Type 0 where
+  pub short : In (length own) longestSide
+  pub some : 1 ≤ k
+  pub size : length part ≡ length own * k
 
-pub record Lined (a b tracks : List ℕ) (w q : ℕ) (wiring : List ℕ) : Type 0 where
-  pub long : length a ≤ longestSide
-  pub wide : w ≤ longestSide
-  pub across : length b ≡ length a
+abbrev pub CombAs : Bool → Orientation → List ℕ → List ℕ → List ℕ → List ℕ → Side → ℕ → List ℕ → List ℕ → Type 0
+CombAs byTrack o a b c d s k before after =
+    StripedAs byTrack before after (length (ownList o a b c d s)) k (λ i j. onLines o (pinsOf a b c d) s (suc i))
+
+abbrev pub trackLines : ℕ → ℕ → Pins → List ℕ → Wiring
+trackLines w q p tracks = fullLines w q p (entry tracks) (λ i. 0)
+
+pub record Lined (o : Orientation) (a b c d : List ℕ) (n w : ℕ) (tracks : List ℕ) (q : ℕ) (wiring : List ℕ) : Type 0 where
+  pub sides : Sides o a b c d n w
+  pub long : In n longestSide
+  pub wide : In w longestSide
   pub lanes : length tracks ≡ q * w
   pub few : q ≤ longestSide
-  pub room : 2 * q * (length a * w) ≤ length wiring
+  pub room : 2 * q * (n * w) ≤ length wiring
 
-abbrev pub boxLines : ℕ → List ℕ → List ℕ → List ℕ → List ℕ → List ℕ → List ℕ → Wiring
-boxLines q a b c d tracks columns = fullLines (length c) q (pinsOf a b c d) (entry tracks) (entry columns)
+abbrev pub boxLines : ℕ → ℕ → Pins → List ℕ → List ℕ → Wiring
+boxLines w q p tracks columns = fullLines w q p (entry tracks) (entry columns)
 
-pub record Drawable (a b c d tracks columns : List ℕ) (q : ℕ) (wiring : List ℕ) : Type 0 where
-  pub lined : Lined a b tracks (length c) q wiring
-  pub across : length d ≡ length c
-  pub posts : length columns ≡ length a
-  pub room : (2 * q + 4) * (length a * length c) ≤ length wiring
+pub record Drawable (o : Orientation) (a b c d : List ℕ) (n w : ℕ) (tracks columns : List ℕ) (q : ℕ) (wiring : List ℕ) : Type 0 where
+  pub lined : Lined o a b c d n w tracks q wiring
+  pub posts : length columns ≡ n
+  pub room : (2 * q + 4) * (n * w) ≤ length wiring
 
-pub record LaidAs (turned : Bool) (n w : ℕ) (a b c d before after : List ℕ) : Type 0 where
+pub record LaidAs (o : Orientation) (n w : ℕ) (p : Pins) (before after : List ℕ) : Type 0 where
   pub tracks : ℕ → ℕ
   pub columns : ℕ → ℕ
   pub wiring : Wiring
-  pub laid : BoxLaid n w (ceil n w) (pinsOf a b c d) wiring tracks columns
-  pub drawn : DrawnAs turned n w before after (2 * ceil n w + 4) wiring
-
-pub record Wired (turned : Bool) (a b c d before after : List ℕ) : Type 0 where
-  pub wiring : Wiring
-  pub legal : Legal (standing (length a) (length c)) (pinsOf a b c d) wiring
-  pub drawn : DrawnAs turned (length a) (length c) before after (2 * ceil (length a) (length c) + 4) wiring
+  pub laid : BoxLaid n w (ceil n w) (onLines o p) wiring tracks columns
+  pub drawn : DrawnAs (o .turned) n w before after (2 * ceil n w + 4) wiring

@@ -14,11 +14,11 @@ use Rattle.lanes.proofs.take_own.Statement.{statement}
 use Rattle.lanes.proofs.take_own.Tie as tie
 
 abbrev Inv-loop : tie.InvT-loop
-Inv-loop own top left₀ spare₀ lanes₀ count₀ i₀ left spare lanes n i =
+Inv-loop own reversed top left₀ spare₀ lanes₀ count₀ i₀ left spare lanes n i =
     (i ≤ top) × (length left ≡ netEntries) × (length spare ≡ netEntries) × Took own left₀ left spare lanes n i
 
 abbrev μ-loop : tie.MeasureT-loop
-μ-loop own top left₀ spare₀ lanes₀ count₀ i₀ left spare lanes n i = top - i
+μ-loop own reversed top left₀ spare₀ lanes₀ count₀ i₀ left spare lanes n i = top - i
 
 loop-holds : tie.Need-loop-holds Inv-loop μ-loop
 loop-holds c = (omega arith, c .before .pre .3, c .before .pre .4, took-none _ _ _)
