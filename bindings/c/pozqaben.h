@@ -76,7 +76,8 @@ bool pozqaben_read(const uint8_t *ticket, size_t ticket_length, uint64_t *answer
 
 /* number, place, kind, n, w, nets, pins, across, up, layers, floor; w is the box's own, or the tracks that lay uses for
  * a row or channel, and 0 for a two-layer channel, whose layers are 2, also where it is solid; pins is how many places
- * hold a pin; up and floor are 0 but for boxes */
+ * hold a pin; up and floor are 0 but for boxes. Across and up of a box also count, at the first and the last column and
+ * track, the nets whose pins are all on the side beside it */
 bool pozqaben_survey(const uint8_t *ticket, size_t ticket_length, uint64_t *answer, size_t answer_length);
 
 /* number, place, kind, n, w, k, first, nets, across, up, floor; first is 1 where layer 1 is horizontal.

@@ -79,6 +79,7 @@ pub struct Survey {
     pub nets: usize,
     /// How many places hold a pin.
     pub pins: usize,
+    /// The most nets that a column must pass. Of a box, as of up, also those whose pins are all on the side beside the column.
     pub across: usize,
     /// 0 but for boxes, as floor.
     pub up: usize,

@@ -2,21 +2,16 @@
 
 mod common;
 
-use common::{answered, extremes, ticket, Lent};
+use common::{answered, extremes, laid_answer, ticket, Lent};
 use slow::judge::{judge, Grid};
-use slow::tickets::{corner, every, rings, two_layer, Numbers};
+use slow::tickets::{corner, every, rings, side_nets, two_layer, Numbers};
 use slow::two_layer::is_solid;
-use slow::{no_kind, survey, Refusal, Ticket, BOX, CHANNEL, EAST, LONGEST_SIDE, NORTH, ROW, SOUTH, TWO_LAYER, WEST, WIDEST_GRID};
+use slow::{no_kind, Refusal, Ticket, BOX, CHANNEL, EAST, LONGEST_SIDE, NORTH, ROW, SOUTH, TWO_LAYER, WEST, WIDEST_GRID};
 
 fn refused(number: u8, place: usize) -> [u64; 11] {
     let mut out = [0; 11];
     (out[0], out[1]) = (number as u64, place as u64);
     out
-}
-
-fn expected(t: &Ticket, g: Grid) -> [u64; 11] {
-    let f = survey::figures(t);
-    [0, 0, t.kind as usize, t.n, g.w, g.k, g.first as usize, f.nets, f.across, f.up, f.floor].map(|x| x as u64)
 }
 
 /// A lay into a buffer of so many bytes: the answer, and the buffer.
@@ -61,7 +56,7 @@ fn lays_well(r: &mut Numbers, bytes: &[u8]) {
     let more = r.below(50 + 4 * t.n);
     for size in [g.size(), g.size() + more] {
         let (answer, buffer) = laid(bytes, size, salt);
-        assert_eq!(answer, expected(&t, g), "{bytes:?}");
+        assert_eq!(answer, laid_answer(&t, g), "{bytes:?}");
         assert!(buffer.kept_past(g.size()), "bytes past the wiring {bytes:?}");
         let x = &buffer.has()[..g.size()];
         assert_eq!(judge(g, &t.pins, x), Ok(()), "{bytes:?}");
@@ -100,6 +95,16 @@ fn corners() {
                 lays_well(r, &t);
             }
         }
+    }
+}
+
+/// Boxes most of whose nets are all on one side, which across, up and floor count.
+#[test]
+fn side_net_boxes() {
+    let r = &mut Numbers::new(225);
+    for _ in 0..5000 {
+        let t = side_nets(r);
+        lays_well(r, &t);
     }
 }
 

@@ -57,6 +57,24 @@ fn two_layer_solid() {
     say(lay_into(&solid, &mut [0; 1000]), text);
 }
 
+/// A box 1 long and 2 wide with both west pins on one net: no wiring on one layer is legal, and one on two layers is.
+#[test]
+fn west_net() {
+    let t = document("west net");
+    let figures = Survey { kind: Kind::Box, n: 1, w: 2, nets: 1, pins: 2, across: 1, up: 1, layers: 8, floor: 2 };
+    assert_eq!(survey(t), Ok(figures));
+    assert_eq!(survey(t).unwrap().to_string(), "box length 1 width 2 nets 1 pins 2 across 1 up 1 layers 8 floor 2");
+    let (laid, wiring) = lay(t).unwrap();
+    assert_eq!(laid, Laid { kind: Kind::Box, n: 1, w: 2, k: 8, first: true, nets: 1, across: 1, up: 1, floor: 2 });
+    assert_eq!(check(t, 2, laid.k, laid.first, &wiring), Ok(()));
+    for first in [false, true] {
+        for x in [[0, 0], [0, 1], [1, 0], [1, 1]] {
+            assert_eq!(check(t, 2, 1, first, &x), Err(Refusal { number: 15, place: 1 }), "{first} {x:?}");
+        }
+        assert_eq!(check(t, 2, 2, first, &[1; 4]), Ok(()), "{first}");
+    }
+}
+
 /// North 1, south 2, west 1, east 2.
 #[test]
 fn smallest_hardest_box() {

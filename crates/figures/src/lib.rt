@@ -5,7 +5,6 @@ use grid::Track;
 use grid::column_count;
 use nets::choose;
 use nets::high_of;
-use nets::low_of;
 use problem::Problem;
 use terms::BOX;
 use terms::LARGEST_NET;
@@ -14,21 +13,21 @@ use terms::NET_ENTRIES;
 use terms::both;
 use terms::by_kind;
 use terms::larger;
+use terms::larger_byte;
 use terms::one_if;
 use terms::rounded_up;
 use terms::wide;
 ghost use mathlib.Core.Path.{_≡_};
-ghost use Prim.Native.Nat.{_+_, _*_, _-_, _≤_};
-ghost use lib.Dec.{eqb};
-ghost use Rattle.counting.specs.Counting.{In, bit, most};
+ghost use Prim.Native.Nat.{_+_, _*_, _-_, _≤_, max};
+ghost use Rattle.counting.specs.Counting.{In, most};
 ghost use Rattle.terms.specs.Limits.{largestNet, longestSide};
-ghost use Rattle.terms.specs.Kinds.{byKind, layersFor};
+ghost use Rattle.terms.specs.Kinds.{layersFor};
 ghost use Rattle.grid.specs.Legal.{nets};
 ghost use Rattle.density.specs.Density.{tracksFor, floor};
 ghost use Rattle.problem.specs.Problem.{Good};
-ghost use Rattle.nets.specs.Tables.{lowOf, highOf, SpansOf, Numbered};
-ghost use Rattle.figures.specs.Crossings.{at, nowhere, PerNet, crossingAt, EndsAt, goesOver, nowAt, AlongSides, Crossed};
-ghost use Rattle.figures.specs.Crossings.{tablesOf, spansFrom};
+ghost use Rattle.nets.specs.Tables.{SpansOf, Numbered};
+ghost use Rattle.figures.specs.Crossings.{at, nowhere, PerNet, staysAt, beginOf, endOf, comesTo, EndsCounted, EndsAt, goesOver};
+ghost use Rattle.figures.specs.Crossings.{boxOver, nowAt, AlongSides, Crossed, UpFor, tablesOf, spansFrom};
 ghost use Rattle.figures.specs.Figures.{figuresOf};
 
 // Past every column: where a net that stays in one place begins and ends.
@@ -42,68 +41,78 @@ pub struct Figures {
     pub floor: Layer,
 }
 
-// The least place of each net along the grid.
-fn lows<'a>(
+// How many nets begin on the near side and go on from there, how many begin there, and how many end on the far side.
+pub struct EndCounts {
+    pub coming: u8,
+    pub near: u8,
+    pub far: u8,
+}
+
+// Whether a net's pins are all at one of the columns 1 to n, or it has none.
+fn stays(first: u8, last: u8, near: u8, far: u8) -> bool
+    ensures { λ r. ⌜ r ≡ staysAt first last near far ⌝ }
+{
+    both(first == last, larger_byte(near, far) == 0)
+}
+
+// The least place of each net that does not stay at one column.
+fn begins<'a>(
     first: &'a [u8; NET_ENTRIES],
+    last: &'a [u8; NET_ENTRIES],
     near: &'a [u8; NET_ENTRIES],
     far: &'a [u8; NET_ENTRIES],
     past: u8,
 ) -> [u8; NET_ENTRIES]
-    ensures { λ r. ⌜ PerNet 0 (λ m. lowOf (at (now (first .entry)) m) (at (now (near .entry)) m) (at (now (far .entry)) m) past)
-        largestNet r ⌝ }
+    ensures { λ r. ⌜ PerNet nowhere (λ m. beginOf (at (now (first .entry)) m) (at (now (last .entry)) m) (at (now (near .entry)) m)
+        (at (now (far .entry)) m) past) largestNet r ⌝ }
 {
-    let mut low = [0u8; NET_ENTRIES];
+    let mut from = [NOWHERE; NET_ENTRIES];
     let mut m: usize = 0;
     while m < LARGEST_NET {
         m += 1;
-        low[m] = low_of(first[m], near[m], far[m], past);
+        let inner = choose(first[m] == 0, past, first[m]);
+        let low = choose(near[m] == 0, inner, 0);
+        from[m] = choose(stays(first[m], last[m], near[m], far[m]), NOWHERE, low);
     }
-    low
+    from
 }
 
 // The greatest.
-fn highs<'a>(last: &'a [u8; NET_ENTRIES], far: &'a [u8; NET_ENTRIES], past: u8) -> [u8; NET_ENTRIES]
-    ensures { λ r. ⌜ PerNet 0 (λ m. highOf (at (now (last .entry)) m) (at (now (far .entry)) m) past) largestNet r ⌝ }
-{
-    let mut high = [0u8; NET_ENTRIES];
-    let mut m: usize = 0;
-    while m < LARGEST_NET {
-        m += 1;
-        high[m] = high_of(last[m], far[m], past);
-    }
-    high
-}
-
-// The entries of the nets that cross from one place to another.
-fn crossing<'a>(
-    low: &'a [u8; NET_ENTRIES],
-    high: &'a [u8; NET_ENTRIES],
-    list: &'a [u8; NET_ENTRIES],
+fn ends<'a>(
+    first: &'a [u8; NET_ENTRIES],
+    last: &'a [u8; NET_ENTRIES],
+    near: &'a [u8; NET_ENTRIES],
+    far: &'a [u8; NET_ENTRIES],
+    past: u8,
 ) -> [u8; NET_ENTRIES]
-    ensures { λ r. ⌜ PerNet nowhere (crossingAt (now (low .entry)) (now (high .entry)) (now (list .entry))) largestNet r ⌝ }
+    ensures { λ r. ⌜ PerNet nowhere (λ m. endOf (at (now (first .entry)) m) (at (now (last .entry)) m) (at (now (near .entry)) m)
+        (at (now (far .entry)) m) past) largestNet r ⌝ }
 {
-    let mut out = [NOWHERE; NET_ENTRIES];
+    let mut to = [NOWHERE; NET_ENTRIES];
     let mut m: usize = 0;
     while m < LARGEST_NET {
         m += 1;
-        out[m] = choose(low[m] < high[m], list[m], NOWHERE);
+        let high = high_of(last[m], far[m], past);
+        to[m] = choose(stays(first[m], last[m], near[m], far[m]), NOWHERE, high);
     }
-    out
+    to
 }
 
-// How many nets begin before column 1.
-fn coming(from: &[u8; NET_ENTRIES]) -> u8
-    ensures { λ r. ⌜ r ≡ nets (λ m. eqb (at (now (from .entry)) m) 0) ⌝ }
+// These three, in one loop over the nets.
+fn end_counts<'a>(from: &'a [u8; NET_ENTRIES], to: &'a [u8; NET_ENTRIES], past: u8) -> EndCounts
+    ensures { λ r. ⌜ EndsCounted (now (from .entry)) (now (to .entry)) past largestNet (r .coming) (r .near) (r .far) ⌝ }
 {
-    let mut total: u8 = 0;
+    let mut coming: u8 = 0;
+    let mut near: u8 = 0;
+    let mut far: u8 = 0;
     let mut m: usize = 0;
     while m < LARGEST_NET {
         m += 1;
-        if from[m] == 0 {
-            total += 1;
-        }
+        coming += choose(both(from[m] == 0, to[m] != 0), 1, 0);
+        near += choose(from[m] == 0, 1, 0);
+        far += choose(to[m] == past, 1, 0);
     }
-    total
+    EndCounts { coming, near, far }
 }
 
 // How many of the nets m and k begin, or end, at column c.
@@ -120,12 +129,14 @@ fn peak<'a, 'b>(
     b: &'b [u8; LONGEST_SIDE],
     from: &'a [u8; NET_ENTRIES],
     to: &'a [u8; NET_ENTRIES],
+    coming: u8,
     n: usize,
 ) -> usize
     requires { ⌜ (n ≤ longestSide) × Numbered (now a) × Numbered (now b) × EndsAt (now a) (now b) n (now from) (now to) ⌝ }
+    requires { ⌜ coming ≡ nets (comesTo (now from) (now to)) ⌝ }
     ensures { λ r. ⌜ r ≡ most (λ c. nets (goesOver (now (from .entry)) (now (to .entry)) c)) n ⌝ }
 {
-    let mut now = wide(coming(from));
+    let mut now = wide(coming);
     let mut best: usize = 0;
     let mut c: usize = 0;
     while c < n {
@@ -139,7 +150,34 @@ fn peak<'a, 'b>(
     best
 }
 
-// Across, where a and b are north and south, near and far the pins on west and east; up, where they are west and east, south and north.
+// Of a box, the number of nets that the first or the last of the columns 1 to n must pass, whichever is larger. A net all of whose pins are
+// on the near side begins and ends there, so that it is not among those that come; where n is 1 they are added, and a net counts once.
+fn at_ends<'a, 'b>(
+    a: &'b [u8; LONGEST_SIDE],
+    b: &'b [u8; LONGEST_SIDE],
+    from: &'a [u8; NET_ENTRIES],
+    to: &'a [u8; NET_ENTRIES],
+    coming: u8,
+    near: u8,
+    far: u8,
+    n: usize,
+) -> usize
+    requires { ⌜ In n longestSide × Numbered (now a) × Numbered (now b) × EndsAt (now a) (now b) n (now from) (now to) ⌝ }
+    requires { ⌜ EndsCounted (now from) (now to) (n + 1) largestNet coming near far ⌝ }
+    ensures { λ r. ⌜ r ≡ max (nets (boxOver (now (from .entry)) (now (to .entry)) n 1))
+        (nets (boxOver (now (from .entry)) (now (to .entry)) n n)) ⌝ }
+{
+    let last = n - 1;
+    let starts = wide(near) + now_at(from, wide(a[0]), wide(b[0]), 1);
+    let stops = wide(far) + now_at(to, wide(a[last]), wide(b[last]), n);
+    if n == 1 {
+        return stops + wide(near - coming);
+    }
+    larger(starts, stops)
+}
+
+// Across, where a and b are north and south, near and far the pins on west and east; of a box up, where they are west and east, south and
+// north.
 fn density<'a, 'b>(
     a: &'b [u8; LONGEST_SIDE],
     b: &'b [u8; LONGEST_SIDE],
@@ -148,16 +186,20 @@ fn density<'a, 'b>(
     near: &'a [u8; NET_ENTRIES],
     far: &'a [u8; NET_ENTRIES],
     n: usize,
+    boxed: bool,
 ) -> usize
     requires { ⌜ AlongSides (now a) (now b) (now first) (now last) n ⌝ }
-    ensures { λ r. ⌜ Crossed (λ x. x) (now (a .entry)) (now (b .entry)) (now (near .entry)) (now (far .entry)) n r ⌝ }
+    ensures { λ r. ⌜ Crossed boxed (now (a .entry)) (now (b .entry)) (now (near .entry)) (now (far .entry)) n r ⌝ }
 {
     let past = n as u8 + 1;
-    let low = lows(first, near, far, past);
-    let high = highs(last, far, past);
-    let from = crossing(&low, &high, &low);
-    let to = crossing(&low, &high, &high);
-    peak(a, b, &from, &to, n)
+    let from = begins(first, last, near, far, past);
+    let to = ends(first, last, near, far, past);
+    let e = end_counts(&from, &to, past);
+    let most = peak(a, b, &from, &to, e.coming, n);
+    if boxed {
+        return larger(most, at_ends(a, b, &from, &to, e.coming, e.near, e.far, n));
+    }
+    most
 }
 
 // Up, of a box: a and b are its sides west and east, near and far the pins on south and north.
@@ -172,10 +214,10 @@ fn up_for<'a, 'b>(
     w: usize,
 ) -> usize
     requires { ⌜ AlongSides (now a) (now b) (now first) (now last) w ⌝ }
-    ensures { λ r. ⌜ Crossed (λ x. byKind kind 0 0 0 x 0) (now (a .entry)) (now (b .entry)) (now (near .entry)) (now (far .entry)) w r ⌝ }
+    ensures { λ r. ⌜ UpFor kind (now (a .entry)) (now (b .entry)) (now (near .entry)) (now (far .entry)) w r ⌝ }
 {
     if kind == BOX {
-        return density(a, b, first, last, near, far, w);
+        return density(a, b, first, last, near, far, w, true);
     }
     0
 }
@@ -240,7 +282,7 @@ pub fn figures_of<'a>(
     let east = q.pins.east;
     let long = column_count(n);
     let w = by_kind(kind, 1, 1, 1, byte2, 1);
-    let across = density(&north, &south, first, last, wests, easts, long);
+    let across = density(&north, &south, first, last, wests, easts, long, kind == BOX);
     let up = up_for(kind, &west, &east, low, high, souths, norths, w);
     let tracks = tracks_for(byte2, across);
     let layers = layers_for(kind, n, byte2);

@@ -1,6 +1,7 @@
 -- No box's floor is over its shape's hardest: each net has two of the 2n + 2w places, so no column and no track passes over n + w nets.
 use Prim.Native.Nat.{ℕ, _+_, _≤_, _<_}
 use mathlib.Core.Path.{_≡_, subst}
+use mathlib.Core.Logic.{⊎-elim}
 use mathlib.Core.Bool.{Bool, true, _&&_, and-eq-true-iff}
 use native.Mathlib.Omega.{arith}
 use lib.Dec.{eqb, leb}
@@ -13,8 +14,8 @@ use Rattle.terms.specs.Limits.{longestSide, largestNet}
 use Rattle.terms.proofs.Laws.{of-box}
 use Rattle.grid.specs.Grid.{Node, pin, places, columnOf, trackOf}
 use Rattle.grid.specs.Legal.{Pins, nets}
-use Rattle.density.specs.Density.{pinOn, hasPin, passesAt, passes, passesTrack, across, up, floorOf}
-use Rattle.density.proofs.Pinned.{side-in}
+use Rattle.density.specs.Density.{pinOn, hasPin, passesAt, hasPinOn, allOn, boxPassesAt, boxPasses, boxPassesTrack, boxAcross, up, floorOf}
+use Rattle.density.proofs.Pinned.{side-in, or-in}
 use Rattle.problem.specs.declared.Problem.{Problem}
 use Rattle.problem.specs.Problem.{pinsIn, pinCount, filledOn, filled, widthOf, shapeOf, Good}
 use Rattle.nets.proofs.Totals.{pins-summed}
@@ -69,13 +70,25 @@ module _ (q : Problem) (good : Good q) where
       let (same, before) = and-eq-true-iff (eqb (p s a) m) (leb (at (pin s a)) c) .0 h in
       pinned p m s a (omega (arith, side-fits good s)) (eqb-true (p s a) m same)
 
-  across-few : across (shapeOf q) p ≤ q .n .0 + widthOf q
-  unfolding across
-  across-few = most-le _ _ _ (λ c i. few (passes (shapeOf q) p c) (λ m h. passed (columnOf (shapeOf q)) c m))
+  all-pinned : (m : ℕ) (s : Side) → allOn (shapeOf q) p m s ≡ true → 1 ≤ pinCount p m
+  unfolding allOn
+  all-pinned m s e =
+      let (a, i, h) = some-in (λ a. eqb (p s a) m) (places (shapeOf q) s) (and-eq-true-iff (hasPinOn (shapeOf q) p m s) _ .0 e .0) in
+      pinned p m s a (omega (arith, side-fits good s)) (eqb-true (p s a) m h)
+
+  box-passed : (at : Node → ℕ) (near far : Side) (last c m : ℕ) → boxPassesAt (shapeOf q) p at near far last c m ≡ true → 1 ≤ pinCount p m
+  unfolding boxPassesAt
+  box-passed at near far last c m e =
+      ⊎-elim (λ more. ⊎-elim (passed at c m) (λ f. all-pinned m near (and-eq-true-iff (eqb c 1) _ .0 f .1)) (or-in _ _ more))
+      (λ f. all-pinned m far (and-eq-true-iff (eqb c last) _ .0 f .1)) (or-in _ _ e)
+
+  across-few : boxAcross (shapeOf q) p ≤ q .n .0 + widthOf q
+  unfolding boxAcross
+  across-few = let g = shapeOf q in most-le _ _ _ (λ c i. few (boxPasses g p c) (λ m h. box-passed (columnOf g) west east (g .n) c m))
 
   up-few : up (shapeOf q) p ≤ q .n .0 + widthOf q
   unfolding up
-  up-few = most-le _ _ _ (λ c i. few (passesTrack (shapeOf q) p c) (λ m h. passed (trackOf (shapeOf q)) c m))
+  up-few = let g = shapeOf q in most-le _ _ _ (λ c i. few (boxPassesTrack g p c) (λ m h. box-passed (trackOf g) south north (g .w) c m))
 
 pub box-floor : (q : Problem) → Good q → q .kind ≡ box → floorOf (shapeOf q) (pinsIn (q .pins)) ≤ hardestFloor (q .n .0) (q .byte2)
 box-floor q good boxy =

@@ -15,7 +15,7 @@ use Rattle.terms.specs.Kinds.{Side, north, south, west, east}
 use Rattle.terms.specs.Limits.{longestSide, largestNet}
 use Rattle.grid.specs.Grid.{Grid, Node, pin, places, upright, columnOf, trackOf}
 use Rattle.grid.specs.Legal.{Pins, nets}
-use Rattle.density.specs.Density.{pinOn, hasPin, passesAt, passes, passesTrack, across, up, floorOf}
+use Rattle.density.specs.Density.{pinOn, hasPin, passesAt, boxPassesAt, boxPasses, boxPassesTrack, boxAcross, up, floorOf}
 use Rattle.density.proofs.Pinned.{side-of}
 use Rattle.density.proofs.Tracks.{all-same}
 use Rattle.problem.specs.Problem.{pinsIn, shapeOf, Good}
@@ -124,31 +124,32 @@ module _ (n w : ℕ) (long : In n longestSide) (broad : In w longestSide) where
         (λ ne. let e : n + (m - n) ≡ m = omega arith in subst Crossing e (lying-net (m - n) (omega arith) (omega (arith, ne))))
   ]
 
-  every-net : (m : ℕ) → In m (n + w) → (passes g (boxPins n w) (half n) m ≡ true) × (passesTrack g (boxPins n w) (half w) m ≡ true)
+  every-net : (m : ℕ) → In m (n + w) → (boxPasses g (boxPins n w) (half n) m ≡ true) × (boxPassesTrack g (boxPins n w) (half w) m ≡ true)
+  unfolding boxPassesAt
   every-net m i =
       let c = crossing m i in (
-        astride-pins (columnOf g) (half n) (c .one) (c .other) (c .columns),
-        astride-pins (trackOf g) (half w) (c .one) (c .other) (c .tracks),
+        rw (astride-pins (columnOf g) (half n) (c .one) (c .other) (c .columns)),
+        rw (astride-pins (trackOf g) (half w) (c .one) (c .other) (c .tracks)),
       )
 
   -- they are among the nets that are counted
   all-pass : (t : ℕ → Bool) → ((m : ℕ) → In m (n + w) → t m ≡ true) → n + w ≤ nets t
   all-pass t all = omega (arith, count-all t (n + w) all, sum-grows (λ m. bit (t m)) (n + w) largestNet (omega arith))
 
-  across-many : n + w ≤ across g (boxPins n w)
-  unfolding across
+  across-many : n + w ≤ boxAcross g (boxPins n w)
+  unfolding boxAcross
   across-many = omega (
     arith,
-    le-most (λ c. nets (passes g (boxPins n w) c)) n (half n) (omega arith),
-    all-pass (passes g (boxPins n w) (half n)) (λ m i. every-net m i .0),
+    le-most (λ c. nets (boxPasses g (boxPins n w) c)) n (half n) (omega arith),
+    all-pass (boxPasses g (boxPins n w) (half n)) (λ m i. every-net m i .0),
   )
 
   up-many : n + w ≤ up g (boxPins n w)
   unfolding up
   up-many = omega (
     arith,
-    le-most (λ c. nets (passesTrack g (boxPins n w) c)) w (half w) (omega arith),
-    all-pass (passesTrack g (boxPins n w) (half w)) (λ m i. every-net m i .1),
+    le-most (λ c. nets (boxPassesTrack g (boxPins n w) c)) w (half w) (omega arith),
+    all-pass (boxPassesTrack g (boxPins n w) (half w)) (λ m i. every-net m i .1),
   )
 
   pub hardest-floor : Good (hardestBox n w) → floorOf (shapeOf (hardestBox n w)) (pinsIn (hardestBox n w .pins)) ≡ hardestFloor n w

@@ -55,7 +55,7 @@ pub fn choose(test: bool, a: u8, b: u8) -> u8
 }
 
 // The least place along the grid of a net's pins.
-pub fn low_of(first: u8, near: u8, far: u8, past: u8) -> u8
+fn low_of(first: u8, near: u8, far: u8, past: u8) -> u8
     ensures { λ r. ⌜ r ≡ lowOf first near far past ⌝ }
 {
     let beyond = choose(far == 0, 0, past);

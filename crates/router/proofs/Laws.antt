@@ -26,7 +26,7 @@ use Rattle.density.proofs.Bounds.{narrowest, lowest}
 use Rattle.problem.specs.declared.Problem.{Problem}
 use Rattle.problem.specs.Problem.{pinsIn, widthOf, shapeOf, Good}
 use Rattle.figures.specs.declared.Figures.{Figures}
-use Rattle.figures.specs.Figures.{acrossOf, tracksOf, figuresOf}
+use Rattle.figures.specs.Figures.{tracksOf, figuresOf}
 use Rattle.grid.specs.Laid.{Laid}
 use Rattle.channel.specs.Given.{Given}
 use Rattle.switchbox.specs.Wired.{boxLayers, boxGrid, BoxPins}
@@ -67,9 +67,14 @@ module _ (q : Problem) where
 
   -- ---- the figures, kind by kind
 
-  thin-tracks : Thin kind → tracks ≡ tracksFor byte2 (acrossOf q)
+  -- without side nets
+  abbrev thinAcross : ℕ
+  thinAcross = across (shapeOf q) p
+
+  thin-tracks : Thin kind → tracks ≡ tracksFor byte2 thinAcross
   unfolding figuresOf
-  thin-tracks h = of-thin h 0 (figuresOf q .w .0) _ _ ∙ of-thin h 0 (tracksOf q) byte2 0
+  thin-tracks h =
+      of-thin h 0 (figuresOf q .w .0) _ _ ∙ of-thin h 0 (tracksOf q) byte2 0 ∙ ap (tracksFor byte2) (of-thin h 0 thinAcross _ thinAcross)
 
   row-layers : kind ≡ row → layers ≡ 2 * byte2
   unfolding figuresOf
@@ -167,8 +172,8 @@ module _ (q : Problem) where
     thin-size : Thin kind → In tracks longestSide
     unfolding tracksFor
     thin-size h =
-        let a : acrossOf q ≤ longestSide = omega (arith, across-few q good h, good .columns) in
-        let c = ceil-le (acrossOf q) byte2 longestSide (omega (arith, mul-le-mul-right longestSide (trunks h .0))) in
+        let a : thinAcross ≤ longestSide = omega (arith, across-few q good h, good .columns) in
+        let c = ceil-le thinAcross byte2 longestSide (omega (arith, mul-le-mul-right longestSide (trunks h .0))) in
         omega (arith, thin-tracks h)
 
     box-high : kind ≡ box → In layers mostLayers
@@ -210,9 +215,9 @@ module _ (q : Problem) where
     unfolding tracksFor
     fits h k =
         let a = across-free (upright n tracks k) (shapeOf q) p refl (bare-west h) (bare-east h) in
-        let r = round-up (acrossOf q) byte2 (trunks h .0) in
-        let m = mul-le-mul-left {m = ceil (acrossOf q) byte2} {n = tracks} byte2 (omega (arith, thin-tracks h)) in
-        rw (sides h, a) (omega (arith, mul-comm byte2 (ceil (acrossOf q) byte2)))
+        let r = round-up thinAcross byte2 (trunks h .0) in
+        let m = mul-le-mul-left {m = ceil thinAcross byte2} {n = tracks} byte2 (omega (arith, thin-tracks h)) in
+        rw (sides h, a) (omega (arith, mul-comm byte2 (ceil thinAcross byte2)))
 
     module _ (w : ℕ) (same : w ≡ tracks) (wiring : List ℕ) (room : needed q ≤ length wiring) where
       drawable : (k : ℕ) → Thin kind → layers ≡ k → Given (q .pins .north) (q .pins .south) n w byte2 k wiring
@@ -280,7 +285,7 @@ module _ (q : Problem) where
         (narrowest (shapeOf q) g byte2 p x (sym (d .length)) (d .tracks) (bare-west h) (bare-east h) y few)
 
     pub no-lower : kind ≡ box → (g : Grid) (x : Wiring) → GridOf kind n tracks g → Legal g p x → figuresOf q .floor .0 ≤ g .k
-    no-lower e g x d y = subst (λ (u : ℕ). u ≤ g .k) (sym (box-floor e)) (lowest p x own rival y)
+    no-lower e g x d y = subst (λ (u : ℕ). u ≤ g .k) (sym (box-floor e)) (lowest p x own rival (good .several) y)
       where
         rival : GridOf box n byte2 g
         rival = subst₂ (λ (k u : ℕ). GridOf k n u g) e (box-tracks e) d

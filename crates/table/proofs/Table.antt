@@ -4,7 +4,7 @@ use mathlib.Core.Path.{_≡_, refl, ap}
 use mathlib.Core.Bool.{false}
 use mathlib.Core.List.{[], _∷_}
 use Rattle.counting.specs.Counting.{sum, some, most, ceil, least}
-use Rattle.density.specs.Density.{pinOn, hasPin, passesAt, across, up, tracksFor, floor}
+use Rattle.density.specs.Density.{pinOn, hasPin, passesAt, across, allOn, boxPassesAt, boxAcross, up, tracksFor, floor}
 use Rattle.problem.specs.Problem.{filled}
 use Rattle.ticket.specs.declared.Reading.{Reading}
 use Rattle.ticket_sides.specs.Format.{goodMap, pinNet, valuesFrom, sideNets}
@@ -15,7 +15,7 @@ use Rattle.figures.specs.Figures.{figuresOf}
 use Rattle.survey.specs.Line.{spelled, lineFor}
 use Rattle.checker.specs.Check.{checkRefusal}
 use Rattle.two_layer_law.specs.Moves.{leads, next, steps, moves, widthFor}
-use Rattle.table.specs.Tickets.{r1, r2, r3, c1, c2, c3, d1, d2, d3, d4, d5, d6, b1, b2, t1, t2, t3, t4, longest, k1, k3, example}
+use Rattle.table.specs.Tickets.{r1, r2, r3, c1, c2, c3, d1, d2, d3, d4, d5, d6, b1, b2, b3, t1, t2, t3, t4, longest, k1, k3, example}
 use Rattle.table.specs.Decide.{tallied}
 use Rattle.table.specs.Table.{netsThrough, LayRefuses, LaidOn, ProofTable}
 use Rattle.table.proofs.Tallied.{read-tallied, answers, lays}
@@ -43,8 +43,9 @@ unfolding sum some least ceil goodMap pinNet valuesFrom sideNets fieldsOf header
 d5-laid = laid-by d5 refl refl 2 1
 
 pub table : ProofTable
-unfolding sum some most ceil pinOn hasPin passesAt across up tracksFor floor goodMap pinNet valuesFrom sideNets least fieldsOf headerOf netsOf
-    sideOf after northEnd southEnd westEnd eastEnd tallied figuresOf filled surveyOf spelled lineFor checkRefusal
+unfolding sum some most ceil pinOn hasPin passesAt across allOn boxPassesAt boxAcross up tracksFor floor goodMap pinNet valuesFrom sideNets
+    least fieldsOf headerOf netsOf sideOf after northEnd southEnd westEnd eastEnd tallied figuresOf filled surveyOf spelled lineFor
+    checkRefusal
 table =
     record {
       R1 = answers r1 .1;
@@ -62,6 +63,8 @@ table =
       D6 = answers d6;
       B1 = answers b1 .1;
       B2 = answers b2 .1;
+      B3 = answers b3 .1;
+      B3-line = ap lineFor (answers b3 .1);
       T1 = answers t1;
       T2 = answers t2;
       T3 = answers t3;

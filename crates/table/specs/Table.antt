@@ -1,5 +1,5 @@
 -- Document 01's "Tickets for the proof table", a field for each row, and the lines that "The program" quotes; then two-layer channels
--- (document 02, job 1). Their bytes: Tickets.antt.
+-- (document 02, job 1) and the box of its job 6. Their bytes: Tickets.antt.
 --
 --   figures kind n w nets pins across up layers floor
 --                       Survey's whole answer to a good ticket; "(n, w, distinct nets, across, up, layers Lay uses, floor)", and "pins P
@@ -35,7 +35,7 @@ use Rattle.terms.specs.Refusals.{refusal}
 use Rattle.survey.specs.Line.{text, lineOf}
 use Rattle.checker.specs.Check.{Checked}
 use Rattle.router.specs.Lay.{refused as refusedLay, layOf}
-use Rattle.table.specs.Tickets.{r1, r2, r3, c1, c2, c3, d1, d2, d3, d4, d5, d6, b1, b2, t1, t2, t3, t4, longest, k1, k3, example}
+use Rattle.table.specs.Tickets.{r1, r2, r3, c1, c2, c3, d1, d2, d3, d4, d5, d6, b1, b2, b3, t1, t2, t3, t4, longest, k1, k3, example}
 
 abbrev pub figures : ℕ → ℕ → ℕ → ℕ → ℕ → ℕ → ℕ → ℕ → ℕ → SurveyAnswer
 figures kind n w nets pins across up layers floor =
@@ -111,6 +111,9 @@ pub record ProofTable : Type 0 where
   pub B1 : surveyOf b1 ≡ figures box 1 1 1 2 1 1 6 2
   -- "B2: 2 by 2, north 1 2, south 2 1: across 2, up 2, floor 2."
   pub B2 : surveyOf b2 ≡ figures box 2 2 2 4 2 2 6 2
+  -- "A box 1 long and 2 wide with both west pins on one net gets floor 1"; "That box now has floor 2"
+  pub B3 : surveyOf b3 ≡ figures box 1 2 1 2 1 1 8 2
+  pub B3-line : lineOf b3 ≡ text "box length 1 width 2 nets 1 pins 2 across 1 up 1 layers 8 floor 2\n"
   -- "T1: 01 02 01 01 03 01: 1 at 6."
   pub T1 : Refused t1 1 6
   -- "T2: 01 02 01 01 03 01 02: 9 at 1."

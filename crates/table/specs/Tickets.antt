@@ -1,4 +1,4 @@
--- "Tickets for the proof table", as bytes; example is the ticket of "The program". d1 to d6 are of document 02's job 1.
+-- "Tickets for the proof table", as bytes; example is the ticket of "The program". d1 to d6 are of document 02's job 1, b3 is of its job 6.
 use Prim.Native.Nat.{ℕ}
 use mathlib.Core.List.{List, [], _∷_}
 
@@ -44,13 +44,16 @@ d5 = 0x04 ∷ 0x02 ∷ 0x01 ∷ 0x03 ∷ 0x03 ∷ 0x01 ∷ 0x02 ∷ 0x03 ∷ 0x0
 abbrev pub d6 : List ℕ
 d6 = 0x04 ∷ 0x02 ∷ 0x02 ∷ 0x00 ∷ []
 
--- ---- boxes: b1 has north and west, b2 and the example north and south
+-- ---- boxes: b1 has north and west, b2 and the example north and south, b3 west
 
 abbrev pub b1 : List ℕ
 b1 = 0x03 ∷ 0x01 ∷ 0x01 ∷ 0x05 ∷ 0x01 ∷ 0x01 ∷ 0x01 ∷ 0x01 ∷ []
 
 abbrev pub b2 : List ℕ
 b2 = 0x03 ∷ 0x02 ∷ 0x02 ∷ 0x03 ∷ 0x03 ∷ 0x01 ∷ 0x02 ∷ 0x03 ∷ 0x02 ∷ 0x01 ∷ []
+
+abbrev pub b3 : List ℕ
+b3 = 0x03 ∷ 0x01 ∷ 0x02 ∷ 0x04 ∷ 0x03 ∷ 0x01 ∷ 0x01 ∷ []
 
 abbrev pub example : List ℕ
 example = 0x03 ∷ 0x04 ∷ 0x01 ∷ 0x03 ∷ 0x0F ∷ 0x01 ∷ 0x02 ∷ 0x03 ∷ 0x04 ∷ 0x0F ∷ 0x04 ∷ 0x03 ∷ 0x02 ∷ 0x01 ∷ []

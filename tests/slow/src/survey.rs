@@ -2,11 +2,20 @@
 
 use crate::{no_kind, no_side, read, Pin, Refusal, Ticket, BOX, CHANNEL, EAST, NORTH, ROW, SOUTH, TWO_LAYER, WEST};
 
-/// The largest number of nets that any of the lines 1 to `lines` must pass; `at` gives a pin's line.
-fn most_passed(t: &Ticket, lines: usize, at: impl Fn(&Pin) -> usize) -> usize {
-    let spans: Vec<Vec<usize>> = t.nets().iter().map(|m| t.pins.iter().filter(|p| p.net == *m).map(&at).collect()).collect();
-    let passes = |c: usize, s: &Vec<usize>| s.iter().any(|a| *a <= c) && s.iter().any(|a| *a >= c) && s.iter().any(|a| *a != c);
-    (1..=lines).map(|c| spans.iter().filter(|s| passes(c, s)).count()).max().unwrap_or(0)
+/// Whether all pins of a net are on this side.
+pub fn all_on(t: &Ticket, net: u8, side: usize) -> bool {
+    t.pins.iter().all(|p| p.net != net || p.side == side)
+}
+
+/// The largest number of nets that any of the lines 1 to `lines` must pass; `at` gives a pin's line. Line 1 also passes each net
+/// whose pins are all on the side `before` it, and the last line each net whose pins are all on the side `after` it. Only boxes
+/// have such nets: rows and channels have no west and no east side, and their tracks are not counted.
+fn most_passed(t: &Ticket, lines: usize, before: usize, after: usize, at: impl Fn(&Pin) -> usize) -> usize {
+    let lines_of = |net: u8| t.pins.iter().filter(|p| p.net == net).map(&at).collect();
+    let nets: Vec<(u8, Vec<usize>)> = t.nets().into_iter().map(|m| (m, lines_of(m))).collect();
+    let goes_through = |c: usize, x: &[usize]| x.iter().any(|a| *a <= c) && x.iter().any(|a| *a >= c) && x.iter().any(|a| *a != c);
+    let is_beside = |c: usize, net: u8| (c == 1 && all_on(t, net, before)) || (c == lines && all_on(t, net, after));
+    (1..=lines).map(|c| nets.iter().filter(|(m, x)| goes_through(c, x) || is_beside(c, *m)).count()).max().unwrap_or(0)
 }
 
 /// Survey's figures; w is 0 for a two-layer channel, whose number of tracks is Lay's own.
@@ -23,7 +32,7 @@ pub struct Figures {
 
 /// How many nets some column must pass.
 fn across(t: &Ticket) -> usize {
-    most_passed(t, t.n, |p| match p.side {
+    most_passed(t, t.n, WEST, EAST, |p| match p.side {
         NORTH | SOUTH => p.place,
         WEST => 0,
         EAST => t.n + 1,
@@ -33,7 +42,7 @@ fn across(t: &Ticket) -> usize {
 
 /// How many nets some track of a box must pass.
 fn up(t: &Ticket) -> usize {
-    most_passed(t, t.byte2, |p| match p.side {
+    most_passed(t, t.byte2, SOUTH, NORTH, |p| match p.side {
         WEST | EAST => p.place,
         SOUTH => 0,
         NORTH => t.byte2 + 1,
@@ -51,11 +60,16 @@ pub fn quotient(n: usize, w: usize) -> usize {
     n.max(w).div_ceil(n.min(w))
 }
 
+/// The floor of a box of this shape with these counts.
+pub fn floor(n: usize, w: usize, across: usize, up: usize) -> usize {
+    let (a, b) = (across.div_ceil(w) as i64, up.div_ceil(n) as i64);
+    [1, 2 * a - 1, 2 * b - 1, a + b].into_iter().max().unwrap() as usize
+}
+
 fn box_figures(t: &Ticket) -> Figures {
     let (n, w, across, up) = (t.n, t.byte2, across(t), up(t));
-    let (a, b) = (across.div_ceil(w) as i64, up.div_ceil(n) as i64);
-    let floor = [1, 2 * a - 1, 2 * b - 1, a + b].into_iter().max().unwrap() as usize;
-    Figures { w, nets: t.nets().len(), pins: t.pins.len(), across, up, layers: 2 * quotient(n, w) + 4, floor }
+    let (nets, pins, layers) = (t.nets().len(), t.pins.len(), 2 * quotient(n, w) + 4);
+    Figures { w, nets, pins, across, up, layers, floor: floor(n, w, across, up) }
 }
 
 pub fn figures(t: &Ticket) -> Figures {

@@ -1,4 +1,4 @@
-//! Tickets to try: the document's own, random good ones, and garbled ones.
+//! Tickets to try: the documents' own, random good ones, and garbled ones.
 
 use crate::{no_kind, places, rules};
 use crate::{BOX, CHANNEL, EAST, LARGEST_NET, LONGEST_SIDE, MOST_TRUNK_LAYERS, NORTH, ROW, SOUTH, TWO_LAYER, WEST};
@@ -58,14 +58,8 @@ pub fn slots(kind: u8, n: usize, byte2: usize) -> Vec<(usize, usize)> {
     sides.iter().flat_map(|s| (1..=places(*s, n, byte2)).map(|i| (*s, i))).collect()
 }
 
-/// A good ticket of this shape with nets of two or more pins on about so many tenths of its places.
-pub fn of_shape(r: &mut Numbers, kind: u8, n: usize, byte2: usize, tenths: usize) -> Vec<u8> {
-    let mut free = slots(kind, n, byte2);
-    r.shuffle(&mut free);
-    free.truncate(free.len() * tenths / 10);
-    let mut names: Vec<u8> = (1..=LARGEST_NET).collect();
-    r.shuffle(&mut names);
-    let pairs = r.below(2) == 0;
+/// Nets of two or more pins on these places, each of two where `pairs`; a last place alone is left over.
+fn share_out(r: &mut Numbers, free: &mut Vec<(usize, usize)>, names: &mut Vec<u8>, pairs: bool) -> Places {
     let mut pins = Places::new();
     while free.len() >= 2 {
         let Some(net) = names.pop() else { break };
@@ -74,6 +68,17 @@ pub fn of_shape(r: &mut Numbers, kind: u8, n: usize, byte2: usize, tenths: usize
             pins.insert(place, net);
         }
     }
+    pins
+}
+
+/// A good ticket of this shape with nets of two or more pins on about so many tenths of its places.
+pub fn of_shape(r: &mut Numbers, kind: u8, n: usize, byte2: usize, tenths: usize) -> Vec<u8> {
+    let mut free = slots(kind, n, byte2);
+    r.shuffle(&mut free);
+    free.truncate(free.len() * tenths / 10);
+    let mut names = names(r, LARGEST_NET as usize);
+    let pairs = r.below(2) == 0;
+    let pins = share_out(r, &mut free, &mut names, pairs);
     encode(kind, n, byte2, &pins)
 }
 
@@ -241,8 +246,29 @@ pub fn corner(r: &mut Numbers, n: usize, w: usize, a: usize, b: usize) -> Vec<u8
     encode(BOX, n, w, &pins)
 }
 
-/// The tickets of the document, by name.
-pub const DOCUMENT: [(&str, &[u8]); 14] = [
+/// A box most of whose nets have all their pins on one side: so many tenths of each side's places are theirs, and nets of any
+/// sides have the rest.
+pub fn side_nets(r: &mut Numbers) -> Vec<u8> {
+    let (longest, widest) = (r.pick(&[1, 3, 12, LONGEST_SIDE]), r.pick(&[1, 3, 12, LONGEST_SIDE]));
+    let (n, w, tenths) = (1 + r.below(longest), 1 + r.below(widest), 5 + r.below(6));
+    let mut names = names(r, LARGEST_NET as usize);
+    let pairs = r.below(2) == 0;
+    let mut rest = Vec::new();
+    let mut pins = Places::new();
+    for side in [NORTH, SOUTH, WEST, EAST] {
+        let mut free: Vec<_> = (1..=places(side, n, w)).map(|i| (side, i)).collect();
+        r.shuffle(&mut free);
+        rest.extend(free.split_off((free.len() * tenths).div_ceil(10)));
+        pins.extend(share_out(r, &mut free, &mut names, pairs));
+        rest.append(&mut free);
+    }
+    r.shuffle(&mut rest);
+    pins.extend(share_out(r, &mut rest, &mut names, pairs));
+    encode(BOX, n, w, &pins)
+}
+
+/// The tickets of the documents, by name; the last is request 6's.
+pub const DOCUMENT: [(&str, &[u8]); 15] = [
     ("R1", &[1, 6, 1, 1, 0x3f, 1, 2, 1, 3, 2, 3]),
     ("R2", &[1, 6, 2, 1, 0x3f, 1, 2, 1, 3, 2, 3]),
     ("R3", &[1, 6, 1, 0]),
@@ -257,6 +283,7 @@ pub const DOCUMENT: [(&str, &[u8]); 14] = [
     ("T3", &[1, 2, 1, 1, 7, 1, 1]),
     ("T4", &[1, 0x5b, 1, 0]),
     ("T4 passes", &[1, 0x5a, 1, 0]),
+    ("west net", &[3, 1, 2, 4, 3, 1, 1]),
 ];
 
 /// t with a byte changed, cut short, longer, or with two bytes exchanged.

@@ -3,7 +3,7 @@
 use slow::hardest::{answer, highest_floor, shapes, ticket};
 use slow::read::read;
 use slow::survey::figures;
-use slow::tickets::{encode, every, of_shape, slots, Numbers, Places};
+use slow::tickets::{encode, every, of_shape, side_nets, slots, Numbers, Places};
 use slow::{BOX, LONGEST_SIDE, LONGEST_TICKET};
 use std::collections::BTreeSet;
 
@@ -60,6 +60,15 @@ fn no_random_box_has_a_higher_floor() {
         let t = of_shape(r, BOX, n, w, tenths);
         reached += reaches_the_highest(n, w, &t) as usize;
     }
+    assert!(reached > 100, "{reached} boxes reach it");
+}
+
+/// Most of their nets are all on one side.
+#[test]
+fn no_side_net_box_has_a_higher_floor() {
+    let r = &mut Numbers::new(39);
+    let boxes = (0..3000).map(|_| side_nets(r));
+    let reached = boxes.filter(|t| reaches_the_highest(t[1] as usize, t[2] as usize, t)).count();
     assert!(reached > 100, "{reached} boxes reach it");
 }
 

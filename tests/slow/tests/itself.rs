@@ -3,7 +3,7 @@
 use slow::judge::judge;
 use slow::lay::lay;
 use slow::read::read;
-use slow::tickets::{corner, encode, of_shape, random, slots, Numbers, DOCUMENT};
+use slow::tickets::{corner, encode, of_shape, random, side_nets, slots, Numbers, DOCUMENT};
 use slow::two_layer::is_solid;
 use slow::{Refusal, BOX, CHANNEL, EAST, LONGEST_SIDE, LONGEST_TICKET, MOST_TRUNK_LAYERS, NORTH, ROW, SOUTH, TWO_LAYER, WEST};
 
@@ -24,6 +24,12 @@ fn document_tickets() {
 fn random_tickets() {
     let r = &mut Numbers::new(11);
     (0..3000).for_each(|_| legal(&random(r)));
+}
+
+#[test]
+fn side_net_boxes() {
+    let r = &mut Numbers::new(53);
+    (0..1000).for_each(|_| legal(&side_nets(r)));
 }
 
 #[test]

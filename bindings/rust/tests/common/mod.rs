@@ -2,8 +2,10 @@
 #![allow(dead_code)]
 
 use pozqaben::raw;
+use slow::judge::Grid;
+use slow::survey::figures;
 use slow::tickets::{damaged, encode, of_shape, random, rings, slots, solid, Numbers, Places, DOCUMENT};
-use slow::{BOX, CHANNEL, LARGEST_NET, LONGEST_SIDE, LONGEST_TICKET, MOST_TRUNK_LAYERS, ROW, TWO_LAYER};
+use slow::{Ticket, BOX, CHANNEL, LARGEST_NET, LONGEST_SIDE, LONGEST_TICKET, MOST_TRUNK_LAYERS, ROW, TWO_LAYER};
 
 pub fn read(ticket: &[u8], answer: &mut [u64]) -> bool {
     unsafe { raw::pozqaben_read(ticket.as_ptr(), ticket.len(), answer.as_mut_ptr(), answer.len()) }
@@ -47,6 +49,12 @@ pub fn answered<const N: usize>(call: impl FnOnce(&mut [u64]) -> bool) -> [u64; 
     assert!(call(&mut array), "an array that is long enough");
     assert_eq!(array[N..], [MARK; 2], "entries past the answer");
     array[..N].try_into().unwrap()
+}
+
+/// Lay's answer to a ticket that it lays on this grid, with the figures of the independent survey.
+pub fn laid_answer(t: &Ticket, g: Grid) -> [u64; 11] {
+    let f = figures(t);
+    [0, 0, t.kind as usize, t.n, g.w, g.k, g.first as usize, f.nets, f.across, f.up, f.floor].map(|x| x as u64)
 }
 
 /// A buffer that stands between bytes that nothing may alter, filled with a pattern.

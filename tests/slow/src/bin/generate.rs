@@ -5,7 +5,8 @@
 use slow::judge::{self, Grid};
 use slow::tickets::{self, damaged, encode, of_shape, slots, Numbers, Places, DOCUMENT};
 use slow::wirings::{case, layered, spoiled, wired, Case};
-use slow::{flat, hardest, lay, no_kind, read, survey, two_layer, Refusal, Ticket, BOX, CHANNEL, EAST, NORTH, ROW, SOUTH, TWO_LAYER, WEST};
+use slow::{flat, hardest, lay, no_kind, places, read, survey, two_layer, Refusal, Ticket};
+use slow::{BOX, CHANNEL, EAST, NORTH, ROW, SOUTH, TWO_LAYER, WEST};
 use slow::{LARGEST_NET, LONGEST_FLAT, LONGEST_SIDE, LONGEST_TICKET, MOST_LAYERS, MOST_TRUNK_LAYERS, WIDEST_CHANNEL, WIDEST_GRID};
 use std::path::Path;
 
@@ -35,6 +36,47 @@ fn two_layers(r: &mut Numbers) -> Vec<Vec<u8>> {
     out.push(tickets::solid(r, LONGEST_SIDE));
     out.push(tickets::a_pin_less(r, LONGEST_SIDE));
     out.push(of_shape(r, TWO_LAYER, LONGEST_SIDE, 1, 10));
+    out
+}
+
+/// A box in which every so many places of each of these sides, one after the other, have a net of their own; all places of a side
+/// that has fewer.
+fn grouped(n: usize, w: usize, sides: &[usize], size: usize) -> Vec<u8> {
+    let mut pins = Places::new();
+    for side in sides {
+        let last = places(*side, n, w);
+        let size = size.min(last);
+        // On the longest sides, pairs take all net numbers there are.
+        let net = |i: usize| 1 + side * LONGEST_SIDE / 2 + (i - 1) / size;
+        pins.extend((1..=last / size * size).map(|i| ((*side, i), net(i) as u8)));
+    }
+    encode(BOX, n, w, &pins)
+}
+
+/// Boxes with nets that are all on one side: every choice of sides of small shapes, and all sides of the longest; a net across the
+/// one column or the one track, alone and beside nets all on either side of it; and so many random ones.
+fn side_boxes(r: &mut Numbers, random: usize) -> Vec<Vec<u8>> {
+    // A side of one place has no net of its own.
+    let long = |n: usize, w: usize| -> Vec<usize> { (NORTH..=EAST).filter(|side| places(*side, n, w) > 1).collect() };
+    let mut out = Vec::new();
+    for (n, w) in [(1, 2), (2, 1), (2, 2), (1, 5), (5, 1), (4, 3)] {
+        for map in 1..16 {
+            let sides: Vec<usize> = (NORTH..=EAST).filter(|side| map >> side & 1 == 1).collect();
+            if sides.iter().all(|side| long(n, w).contains(side)) {
+                out.extend([2, LONGEST_SIDE].map(|size| grouped(n, w, &sides, size)));
+            }
+        }
+    }
+    for (n, w) in [(1, LONGEST_SIDE), (LONGEST_SIDE, 1), (LONGEST_SIDE, LONGEST_SIDE)] {
+        out.extend([2, LONGEST_SIDE].map(|size| grouped(n, w, &long(n, w), size)));
+    }
+    out.dedup();
+    for (a, b, n, w) in [(WEST, EAST, 1, 3), (SOUTH, NORTH, 3, 1)] {
+        let pins = [((a, 1), 1), ((a, 2), 1), ((a, 3), 3), ((b, 1), 3), ((b, 2), 2), ((b, 3), 2)];
+        out.push(encode(BOX, n, w, &Places::from(pins)));
+        out.push(encode(BOX, 1, 1, &Places::from([((a, 1), 1), ((b, 1), 1)])));
+    }
+    out.extend((0..random).map(|_| tickets::side_nets(r)));
     out
 }
 
@@ -105,6 +147,7 @@ fn survey_tickets() -> Vec<Vec<u8>> {
         let t = tickets::random(r);
         out.push(if r.below(3) == 0 { damaged(r, &t) } else { t });
     }
+    out.extend(side_boxes(r, 120));
     out
 }
 
@@ -312,6 +355,7 @@ fn lay_cases() -> Vec<(Vec<u8>, usize)> {
         let t = tickets::random(r);
         tickets.push(if r.below(8) == 0 { damaged(r, &t) } else { t });
     }
+    tickets.extend(side_boxes(r, 6));
     let mut out = Vec::new();
     for t in tickets {
         let lengths = match read::read(&t).and_then(|t| laid_grid(&t)) {
@@ -573,11 +617,15 @@ fn vectors() -> Vec<(&'static str, Vec<u8>, String)> {
     ]
 }
 
+/// How many bytes a program reads at most; `check_vectors` has a longer buffer.
+const LONGEST_INPUT: usize = 65536;
+
 fn main() {
     let crates = Path::new(env!("CARGO_MANIFEST_DIR")).join("../../crates");
     let only_check = std::env::args().any(|a| a == "--check");
     let mut bad = 0;
     for (name, stdin, stdout) in vectors() {
+        assert!(stdin.len() <= LONGEST_INPUT || name == "check_vectors", "{name} reads {LONGEST_INPUT} bytes of {}", stdin.len());
         for (file, content) in [("stdin", stdin), ("stdout", stdout.into_bytes())] {
             let path = crates.join(name).join(file);
             if only_check {
