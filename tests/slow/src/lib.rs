@@ -7,6 +7,7 @@ pub mod flat;
 pub mod hardest;
 pub mod judge;
 pub mod lay;
+pub mod layers;
 pub mod maze;
 pub mod read;
 pub mod search;

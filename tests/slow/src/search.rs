@@ -19,7 +19,7 @@ fn pins(t: &Ticket, side: usize) -> Vec<u8> {
 }
 
 /// Every list of so many numbers, each one of these.
-fn lists(numbers: &[u8], size: usize) -> Vec<Vec<u8>> {
+pub fn lists(numbers: &[u8], size: usize) -> Vec<Vec<u8>> {
     (0..size)
         .fold(vec![vec![]], |out, _| out.into_iter().flat_map(|x: Vec<u8>| numbers.iter().map(move |m| [&x[..], &[*m]].concat())).collect())
 }

@@ -1,9 +1,9 @@
-//! Wirings to try: legal ones by maze routing, spoiled ones, and ones that are given point by point.
+//! Wirings to try: legal ones by maze routing, spoiled ones, ones that are given point by point, and all of a small grid.
 
-use crate::judge::Grid;
+use crate::judge::{judge, Grid};
 use crate::maze::route;
 use crate::tickets::{of_shape, Numbers};
-use crate::{no_kind, read, BOX, CHANNEL, MOST_TRUNK_LAYERS, ROW, TWO_LAYER};
+use crate::{no_kind, read, Ticket, BOX, CHANNEL, MOST_TRUNK_LAYERS, ROW, TWO_LAYER};
 
 /// A wiring for Check: its ticket, its sizes, and the length of the scratch.
 pub struct Case {
@@ -67,4 +67,19 @@ pub fn layered(n: usize, w: usize, k: usize, value: impl Fn(usize, usize, usize)
         }
     }
     out
+}
+
+/// Whether one of all wirings on this grid is legal.
+pub fn some_is_legal(g: Grid, t: &Ticket) -> bool {
+    let numbers = [&[0], &t.nets()[..]].concat();
+    let mut digits = vec![0; g.size()];
+    loop {
+        let x: Vec<u8> = digits.iter().map(|d| numbers[*d]).collect();
+        if judge(g, &t.pins, &x).is_ok() {
+            return true;
+        }
+        let Some(q) = digits.iter().position(|d| d + 1 < numbers.len()) else { return false };
+        digits[..q].fill(0);
+        digits[q] += 1;
+    }
 }

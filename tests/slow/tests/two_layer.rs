@@ -5,6 +5,7 @@ use slow::read::read;
 use slow::search::narrowest;
 use slow::tickets::{self, Numbers};
 use slow::two_layer::{is_solid, lay};
+use slow::wirings::some_is_legal;
 use slow::{Ticket, LONGEST_SIDE, TWO_LAYER, WIDEST_GRID};
 
 fn every_ticket(n: usize) -> Vec<Ticket> {
@@ -13,18 +14,7 @@ fn every_ticket(n: usize) -> Vec<Ticket> {
 
 /// Whether one of all wirings on two layers with w tracks is legal.
 fn some_wiring_is_legal(t: &Ticket, w: usize, first: bool) -> bool {
-    let g = Grid { n: t.n, w, k: 2, first };
-    let numbers = [&[0], &t.nets()[..]].concat();
-    let mut digits = vec![0; g.size()];
-    loop {
-        let x: Vec<u8> = digits.iter().map(|d| numbers[*d]).collect();
-        if judge(g, &t.pins, &x).is_ok() {
-            return true;
-        }
-        let Some(q) = digits.iter().position(|d| d + 1 < numbers.len()) else { return false };
-        digits[..q].fill(0);
-        digits[q] += 1;
-    }
+    some_is_legal(Grid { n: t.n, w, k: 2, first }, t)
 }
 
 #[test]
