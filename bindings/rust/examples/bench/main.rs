@@ -178,6 +178,8 @@ fn call_table(r: &mut Numbers) {
         ("channel of 90", CHANNEL, side, 1),
         ("two-layer channel of 90", TWO_LAYER, side, 1),
         ("box 90 × 90", BOX, side, side),
+        ("box 10 × 10", BOX, 10, 10),
+        ("box 1 × 90", BOX, 1, side),
     ];
     for (name, kind, n, byte2) in shapes {
         let ticket = of_shape(r, kind, n, byte2, 10);
