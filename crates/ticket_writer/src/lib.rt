@@ -17,7 +17,7 @@ ghost use lib.Dec.{leb};
 ghost use Rattle.counting.specs.Counting.{bit};
 ghost use Rattle.terms.specs.Limits.{longestSide};
 ghost use Rattle.grid.specs.Legal.{entry};
-ghost use Rattle.problem.specs.Problem.{Good};
+ghost use Rattle.problem.specs.Problem.{widthOf};
 ghost use Rattle.ticket_sides.specs.Format.{mapBytes, valuesFrom};
 ghost use Rattle.ticket_bytes.specs.Bytes.{isFilled, hasPins, mapByte, netsTo, sideBytes, bytesOf};
 ghost use Rattle.output.specs.Writing.{Wrote};
@@ -165,7 +165,7 @@ fn with_sides<'a>(
 
 // The whole ticket.
 fn ticket_of(q: Problem) -> Output
-    requires { ⌜ Good q ⌝ }
+    requires { ⌜ (q .n .0 ≤ longestSide) × (widthOf q ≤ longestSide) ⌝ }
     ensures says { λ r. ⌜ Says r (bytesOf q) ⌝ }
     ensures most { λ r. ⌜ r .used ≤ mostOutput ⌝ }
 {
@@ -193,7 +193,7 @@ fn ticket_of(q: Problem) -> Output
 
 // Writes the ticket that states the problem, or says 19.
 pub fn write_ticket(q: Problem, ticket: &mut [u8]) -> Written
-    requires { ⌜ Good q ⌝ }
+    requires { ⌜ (q .n .0 ≤ longestSide) × (widthOf q ≤ longestSide) ⌝ }
     ensures { λ r. ⌜ Wrote (bytesOf q) (now (ticket .entry)) (now (ticket .exit)) r ⌝ }
 {
     deliver(ticket_of(q), ticket)

@@ -2,6 +2,7 @@
 use mathlib.Core.Path.{sym, subst}
 use denote.Ref.{now}
 use borrow.Author.Needs.{needs}
+use Rattle.problem.proofs.Sizes.{width-in}
 use Rattle.output.specs.declared.Written.{Written}
 use Rattle.ticket_bytes.specs.Bytes.{Bytes}
 use Rattle.flat_law.specs.Conversion.{ticketForm, flatForm, Converts}
@@ -20,7 +21,9 @@ returns c =
 write-ticket-requires : tie.Need-write-ticket-requires
 write-ticket-requires c κs =
     let c5 = c .before .before .before .before .before in
-    reads-good flat-faithful (now (c5 .before .before .before .args .flat)) (c5 .parse-flat .ensures) (c .before .before .if1 .left)
+    let good =
+    reads-good flat-faithful (now (c5 .before .before .before .args .flat)) (c5 .parse-flat .ensures) (c .before .before .if1 .left) in
+    (good .columns .1, width-in good .1)
 
 returns-2 : tie.Need-returns-2
 returns-2 c =

@@ -3,6 +3,7 @@ use mathlib.Core.Path.{sym, ap, _∙_, subst}
 use denote.Ref.{now}
 use borrow.Author.Needs.{needs}
 use Rattle.problem.specs.Problem.{Good}
+use Rattle.problem.proofs.Sizes.{width-in}
 use Rattle.output.specs.declared.Written.{Written}
 use Rattle.output.specs.Writing.{refusedWriting}
 use Rattle.output.proofs.Laws.{wrote-as}
@@ -28,7 +29,8 @@ make-box-requires c κs = shape-in _ _ (passed (c .before .is-shape .ensures) (c
 write-ticket-requires : tie.Need-write-ticket-requires
 write-ticket-requires c κs =
     let shape = shape-in _ _ (passed (c .before .before .before .is-shape .ensures) (c .before .before .if1 .left)) in
-    subst Good (sym (c .before .make-box .ensures)) (hardest-good _ _ (shape .0) (shape .1))
+    let good = subst Good (sym (c .before .make-box .ensures)) (hardest-good _ _ (shape .0) (shape .1)) in
+    (good .columns .1, width-in good .1)
 
 returns-2 : tie.Need-returns-2
 returns-2 c =

@@ -1,10 +1,9 @@
--- `ticket_writer::ticket_of` meets its contract: the header and the sides, by the sizes of a good problem.
+-- `ticket_writer::ticket_of` meets its contract: the header and the sides, by the sizes of the problem.
 use mathlib.Core.Path.{ap, _∙_}
 use Prim.Native.Nat.{ℕ}
 use native.Mathlib.Omega.{arith}
 use borrow.Author.Needs.{needs}
 use Rattle.terms.specs.Kinds.{byKind}
-use Rattle.problem.proofs.Sizes.{width-in}
 use Rattle.ticket_writer.proofs.Laws.{says-ticket}
 use Rattle.ticket_writer.proofs.ticket_of.Statement.{statement}
 use Rattle.ticket_writer.proofs.ticket_of.Tie as tie
@@ -14,7 +13,7 @@ side-map-requires c κs =
     let c5 = c .before .before .before .before .before in
     let c9 = c5 .before .before .before .before in
     let broad = c5 .by-kind .ensures ∙ ap (λ (v : ℕ). byKind (c9 .args .t1 .kind) 1 1 1 v 1) (c5 .before .wide .ensures) in
-    (omega (arith, c5 .before .before .column-count .ensures, c9 .pre .columns), omega (arith, broad, width-in (c9 .pre)))
+    (omega (arith, c5 .before .before .column-count .ensures, c9 .pre .0), omega (arith, broad, c9 .pre .1))
 
 with-sides-requires : tie.Need-with-sides-requires
 with-sides-requires c κs =
@@ -22,8 +21,8 @@ with-sides-requires c κs =
     let c12 = c5 .before .before .before .before .before .before .before in
     let c16 = c12 .before .before .before .before in
     let broad = c12 .by-kind .ensures ∙ ap (λ (v : ℕ). byKind (c16 .args .t1 .kind) 1 1 1 v 1) (c12 .before .wide .ensures) in (
-      omega (arith, c12 .before .before .column-count .ensures, c16 .pre .columns),
-      omega (arith, broad, width-in (c16 .pre)),
+      omega (arith, c12 .before .before .column-count .ensures, c16 .pre .0),
+      omega (arith, broad, c16 .pre .1),
       c5 .header .ensures .size,
     )
 
