@@ -12,7 +12,7 @@ use Rattle.output.specs.declared.Output.{Output}
 use Rattle.output.specs.Building.{Says, Adds}
 use Rattle.ticket_sides.specs.Format.{valuesFrom}
 use Rattle.ticket.proofs.Filled.{length-values, values-more}
-use Rattle.ticket_writer.proofs.Laws.{entry-next}
+use Rattle.grid.proofs.Entries.{entry-next}
 use Rattle.flat_reader.specs.Flat.{placesOn}
 use Rattle.flat_law.specs.FlatBytes.{flatBytesOf}
 

@@ -14,7 +14,7 @@ use Rattle.counting.proofs.Sums.{split, sum-change, sum-more, sum-grows, sum-pa
 use Rattle.counting.proofs.Counts.{count-same, count-le}
 use Rattle.terms.specs.Limits.{largestNet, netEntries}
 use Rattle.grid.specs.Legal.{entry, nets}
-use Rattle.orientation.proofs.Looks.{entry-at}
+use Rattle.grid.proofs.Entries.{entry-at}
 use Rattle.switchbox_law.specs.Rules.{wanted}
 use Rattle.switchbox_law.specs.Drawing.{Lanes}
 use Rattle.lanes.specs.Tables.{mostLanes, Nets, tallies, Asked}

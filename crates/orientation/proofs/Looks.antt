@@ -1,10 +1,9 @@
 -- The pin lookup is right in all eight orientations: each of the three motions is its definition read backwards, and they are composed.
-use Prim.Native.Nat.{ℕ, zero, suc, _-_, _≤_}
+use Prim.Native.Nat.{ℕ}
 use mathlib.Core.Path.{_≡_, refl, ap, _∙_}
 use mathlib.Core.List.{List}
 use mathlib.Core.Bool.{Bool, true, false, cond}
 use native.Mathlib.Omega.{arith}
-use lib.ListN.{getD}
 use Rattle.counting.specs.Counting.{In}
 use Rattle.terms.specs.Kinds.{Side, north, south, west, east}
 use Rattle.grid.specs.Grid.{Grid, Node, pin, places}
@@ -22,10 +21,6 @@ own-place-in true n i h = omega arith
 pub own-place-again : (r : Bool) (n i : ℕ) → In i n → ownPlace r n (ownPlace r n i) ≡ i
 own-place-again false n i h = refl
 own-place-again true n i h = omega arith
-
-pub entry-at : (xs : List ℕ) (i : ℕ) → 1 ≤ i → entry xs i ≡ getD xs (i - 1) 0
-entry-at xs zero h = absurd (omega arith)
-entry-at xs (suc i) h = ap (λ (j : ℕ). getD xs j 0) (omega arith)
 
 -- the pins of a side
 pub side-pins : (a b c d : List ℕ) (s : Side) → pinsOf a b c d s ≡ entry (bySide a b c d s)

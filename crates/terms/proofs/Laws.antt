@@ -1,7 +1,7 @@
 -- What a test of a limit, a list of checks and a kind's number say once they are passed.
 use Prim.Native.Nat.{ℕ, _≤_}
 use mathlib.Core.Path.{_≡_, refl, sym, _∙_, subst}
-use mathlib.Core.Bool.{Bool, true, false, cond, false≢true, and-eq-true-iff}
+use mathlib.Core.Bool.{Bool, true, false, cond, false≢true, true≢false, and-eq-true-iff}
 use mathlib.Core.Logic.{_≢_}
 use native.Mathlib.Omega.{arith}
 use native.Mathlib.Decide.{ℕ-discrete}
@@ -51,7 +51,19 @@ known kind e =
 pub ceil-small : (a b : ℕ) → 1 ≤ b → ceil a b ≤ a
 ceil-small a b h = ceil-le a b a (omega (arith, mul-le-mul-right a h))
 
--- ---- what only boxes have
+-- ---- what no kind has, and what only boxes have
+
+-- a number that is no kind's has the first value in every column of the kind table
+pub no-kind : {A : Type 0} (kind : ℕ) (none r c b t : A) → isKind kind ≡ false → byKind kind none r c b t ≡ none
+no-kind {A} kind none r c b t e = go (eqb kind row) (eqb kind channel) (eqb kind box) (eqb kind twoLayer) e
+  where
+    go : (w x y z : Bool) → cond w true (cond x true (cond y true (cond z true false))) ≡ false
+        → cond w r (cond x c (cond y b (cond z t none))) ≡ none
+    go true x y z e = absurd (true≢false e)
+    go false true y z e = absurd (true≢false e)
+    go false false true z e = absurd (true≢false e)
+    go false false false true e = absurd (true≢false e)
+    go false false false false e = refl
 
 pub of-box : {A : Type 0} (kind : ℕ) (none r c b t : A) → kind ≡ box → byKind kind none r c b t ≡ b
 of-box kind none r c b t e = subst (λ (k : ℕ). byKind k none r c b t ≡ b) (sym e) refl

@@ -20,9 +20,6 @@ use Rattle.output.specs.declared.Output.{Output}
 use Rattle.output.specs.Building.{Says}
 use Rattle.ticket_bytes.specs.Bytes.{isFilled, hasPins, netsTo, sideBytes, sideMap, bytesOf}
 
-pub entry-next : (l : List ℕ) (i : ℕ) → entry l (i + 1) ≡ getD l i 0
-entry-next l i = rw (add-one i)
-
 -- ---- a byte of the map
 
 pub power-of : (b : ℕ) → b ≤ 8 → 2 ^ b ≤ byteValues

@@ -2,7 +2,7 @@
 use mathlib.Core.Path.{sym, ap, _∙_}
 use native.Mathlib.Omega.{arith}
 use Rattle.grid.specs.Legal.{entry}
-use Rattle.orientation.proofs.Looks.{entry-at}
+use Rattle.grid.proofs.Entries.{entry-at}
 use borrow.Author.Needs.{needs}
 use Rattle.orientation.proofs.pin_at.Statement.{statement}
 use Rattle.orientation.proofs.pin_at.Tie as tie

@@ -9,7 +9,7 @@ use Rattle.counting.specs.Counting.{some}
 use Rattle.counting.proofs.Tests.{some-none-yet, some-more}
 use Rattle.grid.specs.Legal.{entry}
 use Rattle.ticket_bytes.specs.Bytes.{isFilled, hasPins}
-use Rattle.ticket_writer.proofs.Laws.{entry-next}
+use Rattle.grid.proofs.Entries.{entry-next}
 use Rattle.ticket_writer.proofs.has_pins.Statement.{statement}
 use Rattle.ticket_writer.proofs.has_pins.Tie as tie
 

@@ -6,7 +6,7 @@ use lib.Dec.{leb}
 use denote.Ref.{now}
 use borrow.Author.Needs.{needs}
 use borrow.Author.Tests.{le-leb, lt-leb}
-use Rattle.ticket_writer.proofs.Laws.{entry-next}
+use Rattle.grid.proofs.Entries.{entry-next}
 use Rattle.ticket_writer.proofs.is_filled.Statement.{statement}
 use Rattle.ticket_writer.proofs.is_filled.Tie as tie
 
