@@ -1,0 +1,9 @@
+pub mod Places
+pub mod Accepted
+pub mod Gains
+pub mod Changes
+pub mod Start
+pub mod Agreement
+pub mod OneNet
+pub mod Steps
+pub mod History

@@ -1,0 +1,94 @@
+-- What a list of calls does to a board: "After any list of these calls from a fresh board, the pins are those of the nets added and not
+-- since dropped, and across, up and floor are those that a survey of its ticket gives" (document 02, job 7). The law is `history` of
+-- proofs/History.antt.
+--
+--   Call                 a call on a board: adding a net at a list of places, or dropping a net
+--   NetPlaces            the nets that are there: for each its list of places, which is empty where the net is not there
+--   noNets               "starts without pins"
+--   isIn ns m            net m is there
+--   isTaken ns v         one of the nets has the place v: it is "filled"
+--   isOpen q ns v        v is a place of the board, by its kind and shape, that no net has
+--   changed ns m l       the nets, with the list l for net m
+--   afterCall q ns c     the nets after a call: a net that is added has the places that the call lists, one that is dropped has none, and
+--                        "A refused call leaves the board as it found it"
+--   netsAfter q ns cs    the nets after a list of calls, the first call first
+--   LeadsTo q cs q′      a board that held q holds q′ after the calls cs, each of which kept its contract
+--   Kept q ns            what the board holds, where the nets are ns:
+--     pins, places         "the pins are those of the nets": the net at a place has it on its list, and no other has; every place on
+--                          a list is a place of the board
+--     add-refusals, drop-refusals
+--                          what is refused depends on the nets alone
+--     nets                 the number of nets is how many are there
+--     several              "Each net has at least two pins"
+--     read                 Read accepts the board's ticket, as the problem that the board holds
+--     surveyed             "across, up and floor are those that a survey of its ticket gives": Survey's answer to the ticket
+use Prim.Native.Nat.{ℕ, _≤_}
+use mathlib.Core.Path.{_≡_}
+use mathlib.Core.Bool.{Bool, true, cond, not, _&&_}
+use mathlib.Core.List.{List, [], _∷_}
+use lib.Dec.{eqb, leb}
+use lib.ListN.{length}
+use Rattle.counting.specs.Counting.{In, some}
+use Rattle.terms.specs.Limits.{largestNet}
+use Rattle.terms.specs.Kinds.{Side}
+use Rattle.terms.specs.Refusals.{accepted}
+use Rattle.terms.specs.declared.Refusal.{Refusal}
+use Rattle.grid.specs.Grid.{places}
+use Rattle.grid.specs.Legal.{nets}
+use Rattle.problem.specs.declared.Problem.{Problem}
+use Rattle.problem.specs.Problem.{pinsIn, pinCount, filled, shapeOf}
+use Rattle.figures.specs.Figures.{figuresOf}
+use Rattle.ticket.specs.Read.{acceptedReading, ticketOf}
+use Rattle.ticket_bytes.specs.Bytes.{bytesOf}
+use Rattle.survey.specs.Survey.{answered, surveyOf}
+use Rattle.board_law.specs.Places.{placeNumber, isPlace, listed}
+use Rattle.board_law.specs.Edits.{isThere, isFree, addRefusal, dropRefusal, NetAdded, NetDropped}
+
+pub data Call : Type 0 where
+  adding : ℕ → List ℕ → Call
+  dropping : ℕ → Call
+
+abbrev pub NetPlaces : Type 0
+NetPlaces = ℕ → List ℕ
+
+abbrev pub noNets : NetPlaces
+noNets m = []
+
+abbrev pub isIn : NetPlaces → ℕ → Bool
+isIn ns m = leb 1 (length (ns m))
+
+abbrev pub isTaken : NetPlaces → ℕ → Bool
+isTaken ns v = some (λ m. listed (ns m) v) largestNet
+
+abbrev pub isOpen : Problem → NetPlaces → ℕ → Bool
+isOpen q ns v = isPlace q v && not (isTaken ns v)
+
+abbrev pub changed : NetPlaces → ℕ → List ℕ → NetPlaces
+changed ns m l x = cond (eqb x m) l (ns x)
+
+abbrev pub afterCall : Problem → NetPlaces → Call → NetPlaces
+afterCall q ns (adding m l) = cond (accepted (addRefusal (isIn ns m) (isOpen q ns) m l)) (changed ns m l) ns
+afterCall q ns (dropping m) = cond (accepted (dropRefusal (isIn ns m) m)) (changed ns m []) ns
+
+unfoldable pub netsAfter : Problem → NetPlaces → List Call → NetPlaces
+netsAfter q ns [] = ns
+netsAfter q ns (c ∷ cs) = netsAfter q (afterCall q ns c) cs
+
+pub data LeadsTo : Problem → List Call → Problem → Type 0 where
+  done : {q : Problem} → LeadsTo q [] q
+  adds : {q q′ q″ : Problem} {m : ℕ} {l : List ℕ} {r : Refusal} {cs : List Call}
+      → NetAdded q m l r q′ → LeadsTo q′ cs q″ → LeadsTo q (adding m l ∷ cs) q″
+  drops : {q q′ q″ : Problem} {m : ℕ} {r : Refusal} {cs : List Call}
+      → NetDropped q m r q′ → LeadsTo q′ cs q″ → LeadsTo q (dropping m ∷ cs) q″
+
+pub record Kept (q : Problem) (ns : NetPlaces) : Type 0 where
+  pub pins : (s : Side) (a m : ℕ) → In a (places (shapeOf q) s) → In m largestNet
+      → eqb (pinsIn (q .pins) s a) m ≡ listed (ns m) (placeNumber s a)
+  pub places : (m v : ℕ) → In m largestNet → listed (ns m) v ≡ true → isPlace q v ≡ true
+  pub add-refusals : (m : ℕ) (l : List ℕ)
+      → addRefusal (isThere (pinsIn (q .pins)) m) (isFree q (pinsIn (q .pins))) m l ≡ addRefusal (isIn ns m) (isOpen q ns) m l
+  pub drop-refusals : (m : ℕ) → dropRefusal (isThere (pinsIn (q .pins)) m) m ≡ dropRefusal (isIn ns m) m
+  pub nets : q .nets ≡ nets (isIn ns)
+  pub several : (m : ℕ) → In m largestNet → isIn ns m ≡ true → 2 ≤ pinCount (pinsIn (q .pins)) m
+  pub read : ticketOf (bytesOf q) ≡ acceptedReading q
+  pub surveyed : surveyOf (bytesOf q) ≡ answered q (figuresOf q) (filled (pinsIn (q .pins)))
