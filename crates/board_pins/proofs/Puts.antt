@@ -1,0 +1,94 @@
+-- A net put at one place of one side, as the four lists of pins; and a side whose places are passed one by one, a net's pins left out.
+use Prim.Native.Nat.{ℕ, _+_, _-_, _<_}
+use mathlib.Core.Path.{_≡_, sym, ap, _∙_}
+use mathlib.Core.Logic.{_≢_}
+use mathlib.Core.Bool.{cond}
+use mathlib.Core.List.{List}
+use native.Mathlib.Decide.{ℕ-discrete}
+use native.Mathlib.Omega.{arith}
+use lib.Dec.{eqb}
+use lib.ListN.{length, getD, set}
+use lib.Seq.{getD-set-same, getD-set-other}
+use borrow.Author.Tests.{eq-eqb, ne-eqb}
+use Rattle.counting.specs.Counting.{In}
+use Rattle.terms.specs.Limits.{longestSide}
+use Rattle.terms.specs.Kinds.{Side, north, south, west, east}
+use Rattle.grid.specs.Legal.{entry, pinsOf}
+use Rattle.grid.proofs.Entries.{entry-at}
+use Rattle.board_law.specs.Places.{placeNumber}
+use Rattle.board_law.specs.Edits.{withoutNet}
+
+module _ (v x : ℕ) where
+  -- at another number nothing changes
+  other : (u y : ℕ) → v ≢ u → y ≡ cond (eqb v u) x y
+  other u y ne = rw (ne-eqb v u ne)
+
+  -- on the side itself, whose numbers begin after `from`
+  on-side : (l : List ℕ) (from i a : ℕ) → length l ≡ longestSide → i < longestSide → v ≡ from + i + 1 → In a longestSide
+      → entry (set l i x) a ≡ cond (eqb v (from + a)) x (entry l a)
+  on-side l from i a size h e j = elim (ℕ-discrete v (from + a)) [
+    | yes here ↦
+        let same : a - 1 ≡ i = omega arith in
+        entry-at (set l i x) a (j .0) ∙ ap (λ (k : ℕ). getD (set l i x) k 0) same ∙ getD-set-same l i x 0 (omega (arith, size))
+        ∙ sym (rw (eq-eqb v (from + a) here))
+    | no there ↦
+        entry-at (set l i x) a (j .0) ∙ getD-set-other l i (a - 1) x 0 (λ k. there (omega arith)) ∙ sym (entry-at l a (j .0))
+        ∙ other (from + a) (entry l a) there
+  ]
+
+  module _ (n s w e : List ℕ) where
+    pub put-north : length n ≡ longestSide → In v longestSide → (t : Side) (a : ℕ) → In a longestSide
+        → pinsOf (set n (v - 1) x) s w e t a ≡ cond (eqb v (placeNumber t a)) x (pinsOf n s w e t a)
+    put-north size i north a j = on-side n 0 (v - 1) a size (omega arith) (omega arith) j
+    put-north size i south a j = other (placeNumber south a) _ (λ q. omega arith)
+    put-north size i west a j = other (placeNumber west a) _ (λ q. omega arith)
+    put-north size i east a j = other (placeNumber east a) _ (λ q. omega arith)
+
+    pub put-south : length s ≡ longestSide → In (v - 256) longestSide → (t : Side) (a : ℕ) → In a longestSide
+        → pinsOf n (set s (v - 256 - 1) x) w e t a ≡ cond (eqb v (placeNumber t a)) x (pinsOf n s w e t a)
+    put-south size i north a j = other (placeNumber north a) _ (λ q. omega arith)
+    put-south size i south a j = on-side s 256 (v - 256 - 1) a size (omega arith) (omega arith) j
+    put-south size i west a j = other (placeNumber west a) _ (λ q. omega arith)
+    put-south size i east a j = other (placeNumber east a) _ (λ q. omega arith)
+
+    pub put-west : length w ≡ longestSide → In (v - 512) longestSide → (t : Side) (a : ℕ) → In a longestSide
+        → pinsOf n s (set w (v - 512 - 1) x) e t a ≡ cond (eqb v (placeNumber t a)) x (pinsOf n s w e t a)
+    put-west size i north a j = other (placeNumber north a) _ (λ q. omega arith)
+    put-west size i south a j = other (placeNumber south a) _ (λ q. omega arith)
+    put-west size i west a j = on-side w 512 (v - 512 - 1) a size (omega arith) (omega arith) j
+    put-west size i east a j = other (placeNumber east a) _ (λ q. omega arith)
+
+    pub put-east : length e ≡ longestSide → In (v - 768) longestSide → (t : Side) (a : ℕ) → In a longestSide
+        → pinsOf n s w (set e (v - 768 - 1) x) t a ≡ cond (eqb v (placeNumber t a)) x (pinsOf n s w e t a)
+    put-east size i north a j = other (placeNumber north a) _ (λ q. omega arith)
+    put-east size i south a j = other (placeNumber south a) _ (λ q. omega arith)
+    put-east size i west a j = other (placeNumber west a) _ (λ q. omega arith)
+    put-east size i east a j = on-side e 768 (v - 768 - 1) a size (omega arith) (omega arith) j
+
+-- ---- a net taken away
+
+abbrev left-out : ℕ → ℕ → ℕ
+left-out net x = cond (eqb x net) 0 x
+
+module _ (side left : List ℕ) (net : ℕ) where
+  pub left-more : (i r : ℕ) → i < length left → r ≡ left-out net (getD side i 0)
+      → ((k : ℕ) → k < i → getD left k 0 ≡ left-out net (getD side k 0))
+      → (k : ℕ) → k < i + 1 → getD (set left i r) k 0 ≡ left-out net (getD side k 0)
+  left-more i r h e before k l = elim (ℕ-discrete k i) [
+    | yes q ↦ rw q (getD-set-same left i r 0 h ∙ e)
+    | no ne ↦ getD-set-other left i k r 0 ne ∙ before k (omega (arith, ne))
+  ]
+
+  pub left-all : ((k : ℕ) → k < longestSide → getD left k 0 ≡ left-out net (getD side k 0)) → (a : ℕ) → In a longestSide
+      → entry left a ≡ left-out net (entry side a)
+  left-all all a i = entry-at left a (i .0) ∙ all (a - 1) (omega arith) ∙ ap (left-out net) (sym (entry-at side a (i .0)))
+
+abbrev LeftOut : ℕ → List ℕ → List ℕ → Type 0
+LeftOut net side left = (a : ℕ) → In a longestSide → entry left a ≡ left-out net (entry side a)
+
+pub left-sides : (net : ℕ) (n s w e n′ s′ w′ e′ : List ℕ) → LeftOut net n n′ → LeftOut net s s′ → LeftOut net w w′ → LeftOut net e e′
+    → (t : Side) (a : ℕ) → In a longestSide → pinsOf n′ s′ w′ e′ t a ≡ withoutNet (pinsOf n s w e) net t a
+left-sides net n s w e n′ s′ w′ e′ f g h k north = f
+left-sides net n s w e n′ s′ w′ e′ f g h k south = g
+left-sides net n s w e n′ s′ w′ e′ f g h k west = h
+left-sides net n s w e n′ s′ w′ e′ f g h k east = k

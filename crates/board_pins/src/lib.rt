@@ -1,0 +1,168 @@
+// The pins of a board, as its calls look at them and change them. (For our own crates.)
+use problem::Pins;
+use problem::Problem;
+use terms::BYTE_VALUES;
+use terms::LONGEST_SIDE;
+use terms::by_kind;
+use terms::either;
+use terms::is_within;
+use terms::wide;
+ghost use mathlib.Core.Path.{_≡_};
+ghost use mathlib.Core.Bool.{cond, _&&_};
+ghost use mathlib.Core.List.{[]};
+ghost use Prim.Native.Nat.{ℕ, _≤_};
+ghost use lib.Dec.{eqb};
+ghost use lib.ListN.{length};
+ghost use Rattle.counting.specs.Counting.{In, some};
+ghost use Rattle.terms.specs.Limits.{longestSide, largestNet, within};
+ghost use Rattle.terms.specs.Kinds.{Side};
+ghost use Rattle.grid.specs.Legal.{entry};
+ghost use Rattle.problem.specs.Problem.{pinsIn, widthOf};
+ghost use Rattle.board_law.specs.Places.{placeNumber, placeIn};
+ghost use Rattle.board_law.specs.Edits.{isThere, isFree, firstWrong, withNet, withoutNet};
+
+// The least number on each side but the north, whose numbers begin at 0.
+pub const SOUTH_FROM: usize = BYTE_VALUES;
+
+pub const WEST_FROM: usize = 2 * BYTE_VALUES;
+
+pub const EAST_FROM: usize = 3 * BYTE_VALUES;
+
+fn side_holds(side: &[u8; LONGEST_SIDE], net: u8) -> bool
+    ensures { λ r. ⌜ r ≡ some (λ a. eqb (entry (now (side .entry)) a) net) longestSide ⌝ }
+{
+    let mut found = false;
+    let mut i: usize = 0;
+    while i < LONGEST_SIDE {
+        found = either(found, side[i] == net);
+        i += 1;
+    }
+    found
+}
+
+// Whether the net has a pin.
+pub fn holds_net(pins: Pins, net: u8) -> bool
+    ensures { λ r. ⌜ r ≡ isThere (pinsIn pins) net ⌝ }
+{
+    let along = either(side_holds(&pins.north, net), side_holds(&pins.south, net));
+    let ends = either(side_holds(&pins.west, net), side_holds(&pins.east, net));
+    either(along, ends)
+}
+
+// Whether the place is one of the side's and is empty.
+fn is_empty(side: &[u8; LONGEST_SIDE], place: usize, places: usize) -> bool
+    requires { ⌜ places ≤ longestSide ⌝ }
+    ensures { λ r. ⌜ r ≡ (within place places && eqb (entry (now (side .entry)) place) 0) ⌝ }
+{
+    if !is_within(place, places) {
+        return false;
+    }
+    side[place - 1] == 0
+}
+
+// Whether v is a place of the board, by its kind and shape, that is empty where the pins are these.
+fn is_free(q: Problem, pins: Pins, v: usize) -> bool
+    requires { ⌜ (q .n .0 ≤ longestSide) × (widthOf q ≤ longestSide) ⌝ }
+    ensures { λ r. ⌜ r ≡ isFree q (pinsIn pins) v ⌝ }
+{
+    let n = grid::column_count(q.n);
+    let w = by_kind(q.kind, 0, 0, 0, wide(q.byte2), 0);
+    if v < SOUTH_FROM {
+        return is_empty(&pins.north, v, by_kind(q.kind, 0, n, n, n, n));
+    }
+    if v < WEST_FROM {
+        return is_empty(&pins.south, v - SOUTH_FROM, by_kind(q.kind, 0, 0, n, n, n));
+    }
+    if v < EAST_FROM {
+        return is_empty(&pins.west, v - WEST_FROM, w);
+    }
+    is_empty(&pins.east, v - EAST_FROM, w)
+}
+
+// The pins with the net at place v.
+fn with_net(pins: Pins, v: usize, net: u8) -> Pins
+    requires { ⌜ In (placeIn v) longestSide ⌝ }
+    ensures { λ r. ⌜ ((s : Side) (a : ℕ) → In a longestSide
+        → pinsIn r s a ≡ cond (eqb v (placeNumber s a)) net (pinsIn pins s a)) ⌝ }
+{
+    let mut pins = pins;
+    if v < SOUTH_FROM {
+        pins.north[v - 1] = net;
+        return pins;
+    }
+    if v < WEST_FROM {
+        pins.south[v - SOUTH_FROM - 1] = net;
+        return pins;
+    }
+    if v < EAST_FROM {
+        pins.west[v - WEST_FROM - 1] = net;
+        return pins;
+    }
+    pins.east[v - EAST_FROM - 1] = net;
+    pins
+}
+
+// How many places of a list, from its front, are free and new; where all are, the pins with the net at them.
+pub struct Placed {
+    pub count: usize,
+    pub pins: Pins,
+}
+
+// A place that the list has once already is not free any more when it comes again, so one test is enough.
+pub fn place_net(q: Problem, net: u8, places: &[usize]) -> Placed
+    requires { ⌜ (q .n .0 ≤ longestSide) × (widthOf q ≤ longestSide) × In net largestNet ⌝ }
+    ensures count { λ r. ⌜ r .count ≡ firstWrong (isFree q (pinsIn (q .pins))) [] (now (places .entry)) ⌝ }
+    ensures pins { λ r. ⌜ (r .count ≡ length (now (places .entry)) → (s : Side) (a : ℕ) → In a longestSide
+        → pinsIn (r .pins) s a ≡ withNet (pinsIn (q .pins)) net (now (places .entry)) s a) ⌝ }
+{
+    let before = q.pins;
+    let mut pins = before;
+    let mut i: usize = 0;
+    while i < places.len() {
+        let v = places[i];
+        if !is_free(q, pins, v) {
+            return Placed {
+                count: i,
+                pins: before,
+            };
+        }
+        pins = with_net(pins, v, net);
+        i += 1;
+    }
+    Placed { count: i, pins }
+}
+
+fn kept(x: u8, net: u8) -> u8
+    ensures { λ r. ⌜ r ≡ cond (eqb x net) 0 x ⌝ }
+{
+    if x == net { 0 } else { x }
+}
+
+fn side_without(side: &[u8; LONGEST_SIDE], net: u8) -> [u8; LONGEST_SIDE]
+    ensures { λ r. ⌜ ((a : ℕ) → In a longestSide
+        → entry r a ≡ cond (eqb (entry (now (side .entry)) a) net) 0 (entry (now (side .entry)) a)) ⌝ }
+{
+    let mut left = [0u8; LONGEST_SIDE];
+    let mut i: usize = 0;
+    while i < LONGEST_SIDE {
+        left[i] = kept(side[i], net);
+        i += 1;
+    }
+    left
+}
+
+// The pins but those of the net.
+pub fn without_net(pins: Pins, net: u8) -> Pins
+    ensures { λ r. ⌜ ((s : Side) (a : ℕ) → In a longestSide → pinsIn r s a ≡ withoutNet (pinsIn pins) net s a) ⌝ }
+{
+    let north = side_without(&pins.north, net);
+    let south = side_without(&pins.south, net);
+    let west = side_without(&pins.west, net);
+    let east = side_without(&pins.east, net);
+    Pins {
+        north,
+        south,
+        west,
+        east,
+    }
+}
