@@ -1,0 +1,2 @@
+pub mod BoardKinds
+pub mod Calls

@@ -1,0 +1,271 @@
+// A board that is edited: nets come and go, and the board holds their pins.
+// Public calls: the functions of Board. Each takes every board and every number; what is said of a `Sound` board is said of all, since
+// Board's field is private: a start gives a sound board, and adding and dropping keep it so.
+use board_pins::holds_net;
+use board_pins::place_net;
+use board_pins::without_net;
+use grid::Column;
+use grid::Layer;
+use output::Written;
+use problem::Pins;
+use problem::Problem;
+use survey::SurveyAnswer;
+use terms::BYTE_VALUES;
+use terms::ROW;
+use terms::Refusal;
+use terms::by_kind;
+use terms::is_within;
+use terms::largest_byte2;
+use terms::refuse;
+use terms::smaller;
+use terms::smaller_byte;
+use terms::wide;
+use ticket::LONGEST_TICKET;
+ghost use mathlib.Core.Path.{_≡_};
+ghost use mathlib.Core.Bool.{false, _&&_};
+ghost use Prim.Native.Nat.{_-_, _≤_};
+ghost use Rattle.terms.specs.Limits.{longestSide, largestNet, within};
+ghost use Rattle.terms.specs.Refusals.{refusal, accepted};
+ghost use Rattle.problem.specs.Problem.{pinsIn, widthOf, netCount};
+ghost use Rattle.output.specs.Writing.{Wrote};
+ghost use Rattle.ticket_bytes.specs.Bytes.{Sized, bytesOf};
+ghost use Rattle.survey.specs.Survey.{surveyOf};
+ghost use Rattle.board_law.specs.Edits.{isBoardKind, startRefusal, fresh, startProblem, isThere, Sound, NetAdded, NetDropped};
+
+pub struct Board {
+    problem: Problem,
+}
+
+// What a call that starts or changes a board answers: a refusal, and the board to go on with.
+pub struct Edited {
+    pub refusal: Refusal,
+    pub board: Board,
+}
+
+fn is_board_kind(kind: usize) -> bool
+    ensures { λ r. ⌜ r ≡ isBoardKind kind ⌝ }
+{
+    if BYTE_VALUES <= kind {
+        return false;
+    }
+    by_kind(kind as u8, 0, 1, 1, 1, 0) == 1
+}
+
+fn start_refusal(kind: usize, n: usize, byte2: usize) -> Refusal
+    ensures { λ r. ⌜ r ≡ startRefusal kind n byte2 ⌝ }
+{
+    if !is_board_kind(kind) {
+        return refuse(2, 0);
+    }
+    if !is_within(n, Board::LONGEST_SIDE) {
+        return refuse(3, 0);
+    }
+    if !is_within(byte2, largest_byte2(kind as u8)) {
+        return refuse(4, 0);
+    }
+    refuse(0, 0)
+}
+
+// A board without pins.
+fn fresh(kind: u8, n: usize, byte2: u8) -> Board
+    ensures { λ r. ⌜ r .problem ≡ fresh kind n byte2 ⌝ }
+{
+    let empty = [0u8; Board::LONGEST_SIDE];
+    Board {
+        problem: Problem {
+            kind,
+            n: Column(n),
+            byte2,
+            nets: 0,
+            pins: Pins {
+                north: empty,
+                south: empty,
+                west: empty,
+                east: empty,
+            },
+        },
+    }
+}
+
+// The problem with no number past its limit. No board has such a number, so this changes nothing; but a call's proof knows nothing of
+// the board that it is given.
+fn limited(q: Problem) -> Problem
+    ensures fits { λ r. ⌜ (r .n .0 ≤ longestSide) × (widthOf r ≤ longestSide) × (r .nets ≤ largestNet) ⌝ }
+    ensures same { λ r. ⌜ (Sound q → r ≡ q) ⌝ }
+{
+    let n = smaller(grid::column_count(q.n), Board::LONGEST_SIDE);
+    let pins = q.pins;
+    Problem {
+        kind: q.kind,
+        n: Column(n),
+        byte2: smaller_byte(q.byte2, Board::LONGEST_SIDE as u8),
+        nets: smaller_byte(q.nets, Board::LARGEST_NET as u8),
+        pins,
+    }
+}
+
+// The problem with other pins.
+fn with_pins(q: Problem, nets: u8, pins: Pins) -> Problem
+    ensures is { λ r. ⌜ r ≡ record { kind = q .kind; n = q .n; byte2 = q .byte2; nets = nets; pins = pins } ⌝ }
+    ensures sized { λ r. ⌜ Sized r ⌝ }
+{
+    let n = q.n;
+    Problem {
+        kind: q.kind,
+        n,
+        byte2: q.byte2,
+        nets,
+        pins,
+    }
+}
+
+fn one_fewer(x: u8) -> u8
+    ensures { λ r. ⌜ r ≡ x - 1 ⌝ }
+{
+    if x < 1 { 0 } else { x - 1 }
+}
+
+fn refused(board: Board, number: u8, place: usize) -> Edited
+    ensures { λ r. ⌜ (r .refusal ≡ refusal number place) × (r .board ≡ board) ⌝ }
+{
+    Edited {
+        refusal: refuse(number, place),
+        board,
+    }
+}
+
+impl Board {
+    pub const LONGEST_SIDE: usize = terms::LONGEST_SIDE;
+
+    pub const LARGEST_NET: usize = terms::LARGEST_NET;
+
+    // A fresh board of this kind and shape, or 2, 3 or 4 and a fresh row.
+    pub fn start(kind: usize, n: usize, byte2: usize) -> Edited
+        ensures refusal { λ r. ⌜ r .refusal ≡ startRefusal kind n byte2 ⌝ }
+        ensures board { λ r. ⌜ r .board .problem ≡ startProblem kind n byte2 ⌝ }
+        ensures sound { λ r. ⌜ Sound (r .board .problem) ⌝ }
+    {
+        let refusal = start_refusal(kind, n, byte2);
+        if refusal.number != 0 {
+            return Edited {
+                refusal,
+                board: fresh(ROW, 1, 1),
+            };
+        }
+        Edited {
+            refusal,
+            board: fresh(kind as u8, n, byte2 as u8),
+        }
+    }
+
+    // Adds a net at these places, or says 7, 20 or 21.
+    pub fn add(mut self, net: usize, places: &[usize]) -> Edited
+        ensures refused { λ r. ⌜ (accepted (r .refusal) ≡ false → r .board ≡ self) ⌝ }
+        ensures added { λ r. ⌜ (Sound (self .problem)
+            → NetAdded (self .problem) net (now (places .entry)) (r .refusal) (r .board .problem)) ⌝ }
+    {
+        let q = limited(self.problem);
+        let before = q.pins;
+        if !is_within(net, Self::LARGEST_NET) {
+            return refused(self, 7, 0);
+        }
+        let there = holds_net(before, net as u8);
+        let size = places.len();
+        if there {
+            return refused(self, 20, net);
+        }
+        if size < 2 {
+            return refused(self, 21, size);
+        }
+        let placed = place_net(q, net as u8, places);
+        let pins = placed.pins;
+        let changed = with_pins(q, q.nets + 1, pins);
+        let count = placed.count;
+        if count != size {
+            return refused(self, 21, count);
+        }
+        self.problem = changed;
+        Edited {
+            refusal: refuse(0, 0),
+            board: self,
+        }
+    }
+
+    // Takes a net away whole, or says 7 or 22.
+    pub fn drop(mut self, net: usize) -> Edited
+        ensures refused { λ r. ⌜ (accepted (r .refusal) ≡ false → r .board ≡ self) ⌝ }
+        ensures dropped { λ r. ⌜ (Sound (self .problem) → NetDropped (self .problem) net (r .refusal) (r .board .problem)) ⌝ }
+    {
+        let q = self.problem;
+        let before = q.pins;
+        if !is_within(net, Self::LARGEST_NET) {
+            return refused(self, 7, 0);
+        }
+        if !holds_net(before, net as u8) {
+            return refused(self, 22, net);
+        }
+        let pins = without_net(before, net as u8);
+        self.problem = with_pins(q, one_fewer(q.nets), pins);
+        Edited {
+            refusal: refuse(0, 0),
+            board: self,
+        }
+    }
+
+    // Whether the net is there.
+    pub fn has_net(self, net: usize) -> bool
+        ensures { λ r. ⌜ r ≡ (within net largestNet && isThere (pinsIn (self .problem .pins)) net) ⌝ }
+    {
+        if !is_within(net, Self::LARGEST_NET) {
+            return false;
+        }
+        let q = self.problem;
+        let pins = q.pins;
+        holds_net(pins, net as u8)
+    }
+
+    // The number of nets.
+    pub fn net_count(self) -> usize
+        ensures { λ r. ⌜ (Sound (self .problem) → r ≡ netCount (pinsIn (self .problem .pins))) ⌝ }
+    {
+        wide(self.problem.nets)
+    }
+
+    // Writes the board's ticket, or says 19.
+    pub fn write_ticket(self, ticket: &mut [u8]) -> Written
+        ensures { λ r. ⌜ (Sound (self .problem) → Wrote (bytesOf (self .problem)) (now (ticket .entry)) (now (ticket .exit)) r) ⌝ }
+    {
+        ticket_writer::write_ticket(limited(self.problem), ticket)
+    }
+
+    // What a survey of the board's ticket gives.
+    fn survey(self) -> SurveyAnswer
+        ensures { λ r. ⌜ (Sound (self .problem) → r ≡ surveyOf (bytesOf (self .problem))) ⌝ }
+    {
+        let mut ticket = [0u8; LONGEST_TICKET];
+        let written = ticket_writer::write_ticket(limited(self.problem), &mut ticket);
+        let length = written.length;
+        survey::survey(&ticket[..length])
+    }
+
+    pub fn across(self) -> usize
+        ensures { λ r. ⌜ (Sound (self .problem) → r ≡ surveyOf (bytesOf (self .problem)) .across) ⌝ }
+    {
+        let answer = self.survey();
+        answer.across
+    }
+
+    pub fn up(self) -> usize
+        ensures { λ r. ⌜ (Sound (self .problem) → r ≡ surveyOf (bytesOf (self .problem)) .up) ⌝ }
+    {
+        let answer = self.survey();
+        answer.up
+    }
+
+    pub fn floor(self) -> Layer
+        ensures { λ r. ⌜ (Sound (self .problem) → r ≡ surveyOf (bytesOf (self .problem)) .floor) ⌝ }
+    {
+        let answer = self.survey();
+        answer.floor
+    }
+}
