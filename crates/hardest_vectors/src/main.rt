@@ -6,35 +6,17 @@ use grid::Track;
 use libc::STDIN_FILENO;
 use output::MOST_OUTPUT;
 use records::field;
+use records::hash;
 use records::last_field;
 use terms::LONGEST_SIDE;
-use terms::entry_of;
 use terms::smaller;
-ghost use Prim.Native.Nat.{_+_, _≤_, _<_};
+ghost use Prim.Native.Nat.{_+_, _≤_};
 ghost use lib.ListN.{length};
 
 // The bytes of a record.
 const FIELDS: usize = 18;
 
 const LONGEST_BUFFER: usize = 512;
-
-const MODULUS: usize = 1000003;
-
-const FACTOR: usize = 31;
-
-// The hash goes on from `from` over the bytes.
-fn hash(bytes: &[u8], from: usize) -> usize
-    requires { ⌜ from < 1000003 ⌝ }
-    ensures { λ r. ⌜ r < 1000003 ⌝ }
-{
-    let mut h = from;
-    let mut i = 0;
-    while i < bytes.len() {
-        h = (h * FACTOR + entry_of(bytes[i]) + 1) % MODULUS;
-        i += 1;
-    }
-    h
-}
 
 // The line of a length.
 fn widths(n: usize, buffer: &mut [u8])

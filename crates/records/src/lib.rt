@@ -1,4 +1,5 @@
-// What the vector programs share: their input cut into records, the numbers that stand in it, and the fields of the lines that they print.
+// What the vector programs share: their input cut into records, the numbers that stand in it, the fields of the lines that they print, and
+// a hash of what a call wrote.
 use libc::STDOUT_FILENO;
 use terms::BYTE_VALUES;
 use terms::Refusal;
@@ -101,4 +102,23 @@ pub fn stain(buffer: &mut [u8])
     for i in 0..buffer.len() {
         buffer[i] = STAIN;
     }
+}
+
+// A hash is a remainder by MODULUS; at each byte the hash so far is taken FACTOR times.
+const MODULUS: usize = 1000003;
+
+const FACTOR: usize = 31;
+
+// The hash goes on from `from` over the bytes. (For our own crates.)
+pub fn hash(bytes: &[u8], from: usize) -> usize
+    requires { ⌜ from < 1000003 ⌝ }
+    ensures { λ r. ⌜ r < 1000003 ⌝ }
+{
+    let mut h = from;
+    let mut i = 0;
+    while i < bytes.len() {
+        h = (h * FACTOR + entry_of(bytes[i]) + 1) % MODULUS;
+        i += 1;
+    }
+    h
 }

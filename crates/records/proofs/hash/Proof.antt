@@ -1,9 +1,9 @@
--- `hardest_vectors::hash` is safe and ends: a remainder is less than the modulus.
+-- `records::hash` is safe and ends: a remainder is less than the modulus.
 use Prim.Native.Nat.{_-_, _≤_, _<_}
 use lib.ListN.{length}
 use borrow.Author.Needs.{needs}
-use Rattle.hardest_vectors.proofs.hash.Statement.{statement}
-use Rattle.hardest_vectors.proofs.hash.Tie as tie
+use Rattle.records.proofs.hash.Statement.{statement}
+use Rattle.records.proofs.hash.Tie as tie
 
 abbrev Inv-loop : tie.InvT-loop
 Inv-loop bytes from h₀ i₀ h i = (i ≤ length bytes) × (h < 1000003)
