@@ -1,8 +1,10 @@
 //! A slow, independent reading of the scope document and of the requests: it reads and surveys tickets, judges wirings and
-//! lays them, writes the hardest box of a shape, and turns tickets flat and back.
+//! lays them, writes the hardest box of a shape, turns tickets flat and back, and edits boards.
 //!
 //! Written from the documents alone; it shares no code with the crates. Refusals are a number and a place.
 
+pub mod board;
+pub mod edits;
 pub mod flat;
 pub mod hardest;
 pub mod judge;
@@ -10,6 +12,7 @@ pub mod lay;
 pub mod layers;
 pub mod maze;
 pub mod read;
+pub mod records;
 pub mod search;
 pub mod survey;
 pub mod tickets;

@@ -2,7 +2,10 @@
 //!
 //!     cargo run --manifest-path tests/slow/Cargo.toml --bin generate [-- --check]
 
+use slow::board::{place_number, place_numbers};
+use slow::edits::{self, Call};
 use slow::judge::{self, Grid};
+use slow::records::{hash, row, RECORD_BUFFER, STAIN};
 use slow::tickets::{self, damaged, encode, of_shape, slots, Numbers, Places, DOCUMENT};
 use slow::wirings::{case, layered, spoiled, wired, Case};
 use slow::{flat, hardest, lay, no_kind, places, read, survey, two_layer, Refusal, Ticket};
@@ -14,11 +17,6 @@ fn record(t: &[u8]) -> Vec<u8> {
     let mut out = (t.len() as u16).to_le_bytes().to_vec();
     out.extend(t);
     out
-}
-
-fn row(numbers: &[u64]) -> String {
-    let words: Vec<String> = numbers.iter().map(u64::to_string).collect();
-    words.join(" ") + "\n"
 }
 
 fn document() -> Vec<Vec<u8>> {
@@ -387,19 +385,8 @@ fn lay_row((t, length): &(Vec<u8>, usize)) -> String {
     }
 }
 
-/// The buffer that hardest_vectors has for a record; it lends the first bytes of it.
-const RECORD_BUFFER: usize = 512;
-
-/// What its buffers, and those of flat_vectors, hold before a call.
-const STAIN: u8 = 170;
-
-/// The hash that it makes of a buffer's bytes, going on from that of the buffers before.
-fn hash(before: u64, bytes: &[u8]) -> u64 {
-    bytes.iter().fold(before, |h, b| (h * 31 + *b as u64 + 1) % 1_000_003)
-}
-
-/// The lines that it prints before it reads: for each length, the sum of the tickets' lengths over every width, and the hash of
-/// the buffers.
+/// The lines that hardest_vectors prints before it reads: for each length, the sum of the tickets' lengths over every width, and
+/// the hash of the buffers.
 fn every_hardest() -> String {
     let of_length = |n: usize| {
         let (mut total, mut h) = (0, 0);
@@ -600,10 +587,183 @@ fn flat_rows((bytes, size): &(Vec<u8>, usize)) -> String {
     calls.map(|call| line(call)).concat()
 }
 
+/// Starts of every kind, and with each refusal and the order of these; some from a board with pins, which a refused start takes away.
+fn board_starts() -> Vec<Call> {
+    let wide = [(1 << 8) + 1, (1 << 16) + 1, (1 << 32) + 1, u64::MAX];
+    let used = [Call::Start(3, 2, 2), Call::Add(7, vec![1, 257, 513])];
+    // The fresh row of one place: no net fits.
+    let tried = [vec![], vec![1], vec![1, 1], vec![1, 2], vec![257, 1], vec![1, 513]].map(|list| Call::Add(7, list));
+    let mut out: Vec<Call> = tried.to_vec();
+    out.extend([0, 3, 4, 5, RECORD_BUFFER].map(Call::Write));
+    for kind in [0, 4, 5, 128, 131, 255].into_iter().chain(wide) {
+        out.extend([Call::Start(kind, 1, 1), Call::Start(kind, 0, 91), Call::Start(kind, u64::MAX, 0)]);
+    }
+    for kind in [1, 2, 3] {
+        for n in [0, 1, 90, 91, 255] {
+            out.extend([0, 1, 8, 9, 90, 91, 255].map(|byte2| Call::Start(kind, n, byte2)));
+        }
+        out.extend(wide.map(|n| Call::Start(kind, n, 0)));
+        out.extend(wide.map(|byte2| Call::Start(kind, 1, byte2)));
+    }
+    let refused = [(0, 0, 0), (4, 2, 1), (131, 2, 2), (1, 0, 1), (3, 91, 2), (2, 2, 9), (1, 2, 0), (3, 2, 91), (3, 2, u64::MAX)];
+    for (kind, n, byte2) in refused {
+        out.extend(used.clone());
+        out.push(Call::Start(kind, n, byte2));
+        out.extend(tried.clone());
+        out.extend([4, 3].map(Call::Write));
+    }
+    // An accepted one takes the pins away too.
+    for (kind, n, byte2) in [(1, 2, 8), (2, 1, 1), (3, 2, 2), (3, 1, 1)] {
+        out.extend(used.clone());
+        out.extend([Call::Start(kind, n, byte2), Call::Drop(7), Call::Add(7, vec![1, 257])]);
+    }
+    out
+}
+
+/// Every refusal of adds and drops, with each of its causes, and the order of these, on a board of each kind.
+fn board_refusals() -> Vec<Call> {
+    let mut out = Vec::new();
+    let add = |net: u64, list: &[u64]| Call::Add(net, list.to_vec());
+    for (kind, n, byte2) in [(ROW, 6, 1), (CHANNEL, 3, 8), (BOX, 3, 2), (BOX, 90, 90)] {
+        out.push(Call::Start(kind as u64, n as u64, byte2 as u64));
+        let all = place_numbers(kind, n, byte2);
+        let (filled, [a, b, c]) = ([all[1], all[3]], [all[0], all[2], all[4]]);
+        out.push(add(5, &filled));
+        for net in [0, 181, 255, 256, 256 + 5, (1 << 16) + 5, (1 << 32) + 5, u64::MAX] {
+            out.extend([&[][..], &[a], &[0, 0], &[a, b]].map(|list| add(net, list)));
+            out.push(Call::Drop(net));
+        }
+        // The net is there, whatever the list is.
+        out.extend([&[][..], &[a], &[0], &[0, 0], &[a, a], &filled, &[a, b]].map(|list| add(5, list)));
+        out.extend([&[][..], &[a], &[0], &filled[..1], &[u64::MAX]].map(|list| add(6, list)));
+        let mut bad = vec![filled[0], filled[1], 1024, 1025, 1024 + a, 256 * 255 + 1, 65535, (1 << 16) + a, (1 << 32) + a, u64::MAX];
+        for side in NORTH..=EAST {
+            bad.extend([0, n.max(byte2) + 1, 255].map(|place| place_number(side, place)));
+            // The ends of a side that the kind lacks.
+            let last = places(side, n, byte2);
+            bad.extend([1, last].map(|place| place_number(side, place)).into_iter().filter(|v| !all.contains(v)));
+            bad.push(place_number(side, last + 1));
+        }
+        for x in bad {
+            out.extend([&[x, a][..], &[a, x], &[a, b, x, c, x]].map(|list| add(6, list)));
+        }
+        // A repeat, and the first of several bad ones.
+        for list in [[a, a, b, c], [a, b, a, a], [b, a, c, a], [a, a, filled[0], 0], [filled[0], a, a, 0], [a, 0, filled[0], a]] {
+            out.push(add(6, &list));
+        }
+        for net in [6, 1, 180, 5, 5, 6] {
+            out.push(Call::Drop(net));
+        }
+        // After so many refusals, and without net 5, every place is free.
+        out.extend([add(6, &all), Call::Drop(5), Call::Drop(6), add(5, &all), Call::Drop(5)]);
+    }
+    out
+}
+
+/// A net is dropped, and added again at the same places and elsewhere, while another one moves; some places are filled.
+fn board_moves() -> Vec<Call> {
+    let mut out = Vec::new();
+    for (kind, n, byte2) in [(ROW, 9, 2), (CHANNEL, 5, 1), (BOX, 4, 3), (BOX, 1, 4), (BOX, 4, 1)] {
+        let all = place_numbers(kind, n, byte2);
+        out.push(Call::Start(kind as u64, n as u64, byte2 as u64));
+        out.push(Call::Add(9, vec![all[1], all[6]]));
+        for i in 0..all.len() - 1 {
+            let far = all[(i + all.len() / 2) % all.len()];
+            let list = vec![far, all[i]];
+            out.extend([Call::Add(180, list.clone()), Call::Drop(180), Call::Add(180, list), Call::Drop(180)]);
+            out.extend([Call::Add(180, vec![all[i], all[i + 1]]), Call::Drop(9), Call::Add(9, vec![far, all[0]]), Call::Drop(180)]);
+        }
+    }
+    out
+}
+
+/// Full boards, and nets that are all on one side or in one column; each is written into buffers around its ticket's length, and
+/// loses a few nets.
+fn full_boards(r: &mut Numbers) -> Vec<Call> {
+    let side = LONGEST_SIDE;
+    let one_net = |kind: u8, n: usize, byte2: usize| -> Vec<u8> {
+        encode(kind, n, byte2, &slots(kind, n, byte2).into_iter().map(|place| (place, LARGEST_NET)).collect())
+    };
+    // Nets that have every place of so many columns of a channel.
+    let columns = |n: usize, many: usize| -> Vec<u8> {
+        encode(CHANNEL, n, 1, &slots(CHANNEL, n, 1).into_iter().map(|(s, i)| ((s, i), 1 + ((i - 1) / many) as u8)).collect())
+    };
+    let pairs: Places = (1..=side).map(|i| ((NORTH, i), 1 + ((i - 1) % (side / 2)) as u8)).collect();
+    let mut tickets = document();
+    tickets.retain(|t| (ROW..=BOX).contains(&t[0]) && read::read(t).is_ok());
+    tickets.extend([hardest::ticket(side, side), hardest::ticket(1, 1), hardest::ticket(1, 2), hardest::ticket(7, 3)]);
+    tickets.extend([one_net(BOX, side, side), one_net(CHANNEL, side, 8), one_net(ROW, side, 1), one_net(BOX, 1, side)]);
+    tickets.extend([encode(ROW, side, 1, &pairs), columns(side, 1), columns(5, 2), of_shape(r, CHANNEL, side, 3, 10)]);
+    tickets.extend(side_boxes(r, 4).into_iter().filter(|t| t.len() < 60).step_by(3));
+    tickets.extend([(1, side), (side, 1)].map(|(n, w)| grouped(n, w, &[if n == 1 { WEST } else { SOUTH }], 2)));
+    let mut out = Vec::new();
+    for t in tickets {
+        let length = t.len();
+        out.extend(edits::of_ticket(&t));
+        out.extend([0, length - 1, length, length + 1, RECORD_BUFFER].map(Call::Write));
+        let mut nets = read::read(&t).expect("a good ticket").nets();
+        out.push(Call::Add(1 + r.below(LARGEST_NET as usize) as u64, vec![1, 2]));
+        r.shuffle(&mut nets);
+        out.extend(nets.iter().take(3).map(|net| Call::Drop(*net as u64)));
+    }
+    // Lists that are longer than a board has places.
+    let all = place_numbers(BOX, side, side);
+    out.push(Call::Start(BOX as u64, side as u64, side as u64));
+    out.push(Call::Add(1, [&all[..], &all[..50]].concat()));
+    out.push(Call::Add(1, [&all[..359], &all[300..], &[0; 90]].concat()));
+    out
+}
+
+/// Histories of so many calls on boards of every kind with the shortest and the longest sides; large boards are filled first.
+fn board_histories(r: &mut Numbers) -> Vec<Call> {
+    let (side, most) = (LONGEST_SIDE, MOST_TRUNK_LAYERS);
+    let rows = [(1, 1, 12), (2, most, 80), (7, 1, 220), (16, 3, 220), (side, 1, 260), (side, most, 60)];
+    let channels = [(1, 1, 80), (2, 2, 160), (8, 1, 220), (side, 1, 200), (side, most, 60)];
+    let boxes = [(1, 1, 200), (1, 2, 160), (2, 1, 160), (2, 2, 220), (3, 5, 260), (9, 8, 220), (40, 12, 160)];
+    let long_boxes = [(1, side, 220), (side, 1, 220), (2, side, 100), (side, side, 260)];
+    let shapes = [(ROW, &rows[..]), (CHANNEL, &channels), (BOX, &boxes), (BOX, &long_boxes)];
+    let mut out = Vec::new();
+    for (kind, list) in shapes {
+        for (n, byte2, calls) in list {
+            let filled = slots(kind, *n, *byte2).len() > 60;
+            out.extend(edits::history(r, (kind, *n, *byte2), filled, *calls, 5));
+        }
+    }
+    out
+}
+
+/// The calls of board_vectors. A record is a code of one byte, 1 start (kind, n, byte 2), 2 add (net, places), 3 drop (net) or 4
+/// the ticket into a buffer of so many bytes; how many numbers follow, two bytes; and these, two bytes each, or eight where bit 7 of
+/// the code stands; all low byte first. A line has number, place, whether the net is there, nets, across, up, floor, the ticket's
+/// length and the hash of the stained buffer that it was written to; for code 4 number, place, length and the buffer's hash. `edits`
+/// has what else there is to say, what ends a run too.
+fn board_calls() -> Vec<Call> {
+    let r = &mut Numbers::new(73);
+    [board_starts(), board_refusals(), board_moves(), full_boards(r), board_histories(r)].concat()
+}
+
+/// The records of the calls; then some with numbers of eight bytes though they need two, some with more numbers than they take, and
+/// one that ends the run, with a good one after it.
+fn board_records(calls: &[Call]) -> Vec<u8> {
+    let mut out: Vec<u8> = calls.iter().flat_map(Call::record).collect();
+    let r = &mut Numbers::new(79);
+    let last = edits::history(r, (BOX, 3, 2), false, 60, 3);
+    out.extend(last.iter().flat_map(Call::wide_record));
+    let longer = [(1, [2, 3, 1, 9]), (3, [9, 1, 2, 4]), (4, [7, 3, 2, 1]), (1, [3, 1, 1, 0])];
+    for wide in [false, true] {
+        out.extend(longer.iter().flat_map(|(code, numbers)| edits::record(*code, wide, numbers)));
+    }
+    out.extend(edits::record(5, false, &[1]));
+    out.extend(Call::Drop(1).record());
+    out
+}
+
 /// What each program reads and must print.
 fn vectors() -> Vec<(&'static str, Vec<u8>, String)> {
     let (reads, surveys, checks, lays, boxes) = (read_tickets(), survey_tickets(), check_cases(), lay_cases(), hardest_cases());
     let turns = flat_cases();
+    let boards = board_records(&board_calls());
+    let board_lines = edits::run(&boards);
     let records = |list: &[Vec<u8>]| list.iter().flat_map(|t| record(t)).collect();
     let verdict = |c: &Case| row(&judge::answer(&c.ticket, c.w, c.k, c.first, &c.wiring, c.scratch));
     let hardest_rows: String = boxes.iter().map(hardest_row).collect();
@@ -614,6 +774,7 @@ fn vectors() -> Vec<(&'static str, Vec<u8>, String)> {
         ("lay_vectors", lays.iter().flat_map(lay_record).collect(), lays.iter().map(lay_row).collect()),
         ("hardest_vectors", boxes.iter().flat_map(hardest_record).collect(), every_hardest() + &hardest_rows),
         ("flat_vectors", turns.iter().flat_map(flat_record).collect(), turns.iter().map(flat_rows).collect()),
+        ("board_vectors", boards, board_lines),
     ]
 }
 

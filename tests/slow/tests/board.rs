@@ -1,0 +1,528 @@
+//! Boards that are edited: every refusal worked by hand from the documents; and the list of nets against a second board, an array of
+//! places with counts that are kept, over random histories and over every short list on small boards.
+
+use slow::board::{place_number, place_numbers, Board};
+use slow::edits::{self, line, of_ticket, random_shape, record, run, Call, MOST_NUMBERS};
+use slow::flat::unflatten;
+use slow::read::read;
+use slow::records::{hash, RECORD_BUFFER, STAIN};
+use slow::survey::{figures, floor};
+use slow::tickets::{encode, random, slots, Numbers, DOCUMENT};
+use slow::{hardest, places, Refusal, BOX, CHANNEL, EAST, LARGEST_NET, LONGEST_SIDE, LONGEST_TICKET, NORTH, ROW, SOUTH, TWO_LAYER, WEST};
+
+const MAX: u64 = u64::MAX;
+
+fn started(kind: u8, n: usize, byte2: usize) -> Board {
+    let (board, outcome) = Board::start(kind as u64, n as u64, byte2 as u64);
+    assert_eq!(outcome, Ok(()));
+    board
+}
+
+/// An add that is refused leaves the board as it was.
+fn add_refused(board: &Board, net: u64, places: &[u64], number: u8, place: usize) {
+    let mut after = board.clone();
+    assert_eq!(after.add(net, places), Err(Refusal(number, place)), "{net} at {places:?}");
+    assert_eq!(after, *board);
+}
+
+fn drop_refused(board: &Board, net: u64, number: u8, place: usize) {
+    let mut after = board.clone();
+    assert_eq!(after.drop(net), Err(Refusal(number, place)), "{net}");
+    assert_eq!(after, *board);
+}
+
+#[test]
+fn starts() {
+    let refused = |kind: u64, n: u64, byte2: u64, number: u8| {
+        let (board, outcome) = Board::start(kind, n, byte2);
+        assert_eq!(outcome, Err(Refusal(number, 0)), "{kind}, {n}, {byte2}");
+        assert_eq!((board.ticket(), board), (vec![ROW, 1, 1, 0], Board::fresh()));
+    };
+    for kind in [0, 4, 5, 129, 131, 255, 256 + 1, (1 << 16) + 2, (1 << 32) + 3, MAX] {
+        refused(kind, 1, 1, 2);
+        refused(kind, 0, 0, 2);
+    }
+    for kind in [1, 2, 3] {
+        for n in [0, 91, 255, 256 + 1, (1 << 32) + 1, MAX] {
+            refused(kind, n, 1, 3);
+            refused(kind, n, 0, 3);
+        }
+        for byte2 in [0, if kind == 3 { 91 } else { 9 }, 256 + 1, (1 << 16) + 1, (1 << 32) + 1, MAX] {
+            refused(kind, 1, byte2, 4);
+            refused(kind, 90, byte2, 4);
+        }
+    }
+    for (kind, n, byte2) in [(ROW, 1, 1), (ROW, 90, 8), (CHANNEL, 90, 1), (CHANNEL, 1, 8), (BOX, 1, 90), (BOX, 90, 1), (BOX, 90, 90)] {
+        let board = started(kind, n, byte2);
+        assert_eq!((board.shape(), board.nets().len()), ((kind, n, byte2), 0));
+        assert_eq!(board.ticket(), [kind, n as u8, byte2 as u8, 0]);
+        assert_eq!(board.figures(), [0, 0, (kind == BOX) as u64]);
+    }
+}
+
+/// A box 3 long and 2 wide, which has net 5 at north 2 and west 1.
+fn small_box() -> Board {
+    let mut board = started(BOX, 3, 2);
+    assert_eq!(board.add(5, &[513, 2]), Ok(()));
+    board
+}
+
+#[test]
+fn an_impossible_net_number_comes_first() {
+    let board = small_box();
+    for net in [0, 181, 255, 256, 256 + 5, (1 << 16) + 5, (1 << 32) + 5, (1 << 63) + 5, MAX] {
+        for list in [&[][..], &[1], &[0, 0], &[2, 513], &[1, 3]] {
+            add_refused(&board, net, list, 7, 0);
+        }
+        drop_refused(&board, net, 7, 0);
+        assert!(!board.has(net));
+    }
+}
+
+#[test]
+fn a_net_that_is_there_comes_before_its_list() {
+    let board = small_box();
+    for list in [&[][..], &[1], &[0], &[0, 0], &[2, 513], &[1, 3]] {
+        add_refused(&board, 5, list, 20, 5);
+    }
+    assert!(board.has(5));
+}
+
+#[test]
+fn fewer_than_two_places() {
+    let board = small_box();
+    add_refused(&board, 6, &[], 21, 0);
+    for place in [1, 2, 0, 1025, MAX] {
+        add_refused(&board, 6, &[place], 21, 1);
+    }
+}
+
+#[test]
+fn places_that_are_none() {
+    let board = small_box();
+    // Place 0 and the first past the end of each side, and sides that are none.
+    let none = [0, 4, 255, 256, 260, 511, 512, 515, 767, 768, 771, 1023, 1024, 1025, 1280 + 1, 255 * 256 + 1, 65535];
+    let wide = [(1 << 16) + 1, (1 << 32) + 1, (1 << 63) + 1, MAX - 255, MAX];
+    for place in none.into_iter().chain(wide) {
+        add_refused(&board, 6, &[place, 1], 21, 0);
+        add_refused(&board, 6, &[1, place], 21, 1);
+        add_refused(&board, 6, &[1, 3, 257, 258, place, place, 0], 21, 4);
+    }
+    // Sides that the kind lacks; byte 2 makes no places there.
+    for (kind, n, byte2, sides) in [(ROW, 3, 3, &[SOUTH, WEST, EAST][..]), (CHANNEL, 3, 8, &[WEST, EAST])] {
+        for (side, place) in sides.iter().flat_map(|side| [1, 2, 3, 8].map(|place| (*side, place))) {
+            add_refused(&started(kind, n, byte2), 1, &[2, place_number(side, place)], 21, 1);
+        }
+    }
+    assert_eq!(started(CHANNEL, 3, 8).add(1, &[2, 258, 259]), Ok(()));
+}
+
+#[test]
+fn filled_places_and_repeats() {
+    let board = small_box();
+    for place in [2, 513] {
+        add_refused(&board, 6, &[place, 1], 21, 0);
+        add_refused(&board, 6, &[1, place], 21, 1);
+    }
+    add_refused(&board, 6, &[1, 1], 21, 1);
+    add_refused(&board, 6, &[1, 3, 1, 3], 21, 2);
+    add_refused(&board, 6, &[1, 3, 3, 2], 21, 2);
+    add_refused(&board, 6, &[1, 3, 2, 3], 21, 2);
+    // The first of several, whatever they are.
+    add_refused(&board, 6, &[1, 0, 1, 2], 21, 1);
+    add_refused(&board, 6, &[2, 1, 1, 0], 21, 0);
+    add_refused(&board, 6, &[1, 1, 0, 2], 21, 1);
+    assert_eq!(board.clone().add(6, &[3, 1, 770]), Ok(()));
+}
+
+#[test]
+fn drops() {
+    let mut board = small_box();
+    drop_refused(&board, 6, 22, 6);
+    drop_refused(&board, 180, 22, 180);
+    assert_eq!(board.drop(5), Ok(()));
+    assert_eq!(board, started(BOX, 3, 2));
+    drop_refused(&board, 5, 22, 5);
+    // Again, elsewhere; its former places are free.
+    assert_eq!(board.add(5, &[1, 3]), Ok(()));
+    assert_eq!(board.add(6, &[2, 513]), Ok(()));
+    assert_eq!(board.ticket(), [3, 3, 2, 5, 7, 5, 6, 5, 1, 6]);
+}
+
+/// The order of a list is no part of the ticket.
+#[test]
+fn tickets_and_figures_of_the_documents() {
+    let mut board = started(BOX, 1, 2);
+    assert_eq!(board.figures(), [0, 0, 1]);
+    assert_eq!(board.add(1, &[514, 513]), Ok(()));
+    assert_eq!((board.ticket(), board.figures()), (vec![3, 1, 2, 4, 3, 1, 1], [1, 1, 2]));
+    let figures_of = |name: &str| {
+        let (_, t) = DOCUMENT.iter().find(|(n, _)| *n == name).expect("a ticket of the document");
+        let mut board = Board::fresh();
+        of_ticket(t).iter().for_each(|call| drop(line(&mut board, call)));
+        assert_eq!(board.ticket(), *t, "{name}");
+        board.figures()
+    };
+    assert_eq!(["R1", "R2", "R3"].map(figures_of), [[2, 0, 0], [2, 0, 0], [0, 0, 0]]);
+    assert_eq!(["C1", "C2", "C3"].map(figures_of), [[2, 0, 0], [2, 0, 0], [0, 0, 0]]);
+    assert_eq!(["B1", "B2", "box", "west net"].map(figures_of), [[1, 1, 2], [2, 2, 2], [4, 4, 7], [1, 1, 2]]);
+}
+
+/// Net 1 of the channel has both places of column 1: no column must pass it.
+#[test]
+fn a_channel_and_its_figures_call_by_call() {
+    let mut board = started(CHANNEL, 4, 1);
+    let mut figures = Vec::new();
+    let calls: [(u64, &[u64]); 4] = [(1, &[257, 1]), (2, &[2, 260]), (3, &[258, 3, 259]), (4, &[4, 1])];
+    for (net, places) in calls {
+        figures.push((board.add(net, places), board.figures()));
+    }
+    assert_eq!(figures, [(Ok(()), [0; 3]), (Ok(()), [1, 0, 0]), (Ok(()), [2, 0, 0]), (Err(Refusal(21, 1)), [2, 0, 0])]);
+    assert_eq!((board.drop(2), board.figures(), board.nets().len()), (Ok(()), [1, 0, 0], 2));
+    assert_eq!(board.ticket(), [2, 4, 1, 3, 5, 1, 3, 7, 1, 3, 3]);
+}
+
+#[test]
+fn full_boards() {
+    let side = LONGEST_SIDE;
+    let mut board = Board::fresh();
+    of_ticket(&hardest::ticket(side, side)).iter().for_each(|call| drop(line(&mut board, call)));
+    assert_eq!((board.nets().len(), board.ticket().len(), board.figures()), (180, LONGEST_TICKET, [180, 180, 4]));
+    for net in 1..=LARGEST_NET {
+        add_refused(&board, net as u64, &[1, 2], 20, net as usize);
+    }
+    let mut board = started(BOX, side, side);
+    let all = place_numbers(BOX, side, side);
+    add_refused(&board, 180, &[&all[..], &all].concat(), 21, 360);
+    assert_eq!(board.add(180, &all), Ok(()));
+    for place in all {
+        add_refused(&board, 1, &[place, 0], 21, 0);
+    }
+    assert_eq!((board.ticket().len(), board.figures()), (LONGEST_TICKET, [1, 1, 2]));
+    assert_eq!((board.drop(180), board), (Ok(()), started(BOX, side, side)));
+}
+
+#[test]
+fn buffers_around_the_length_needed() {
+    let board = small_box();
+    let ticket = board.ticket();
+    assert_eq!(ticket, [3, 3, 2, 5, 2, 5, 1, 5]);
+    for size in [0, 1, 7] {
+        let mut buffer = vec![STAIN; size];
+        assert_eq!((board.write_ticket(&mut buffer), buffer), ([19, 8, 0], vec![STAIN; size]));
+    }
+    for size in [8, 9, 600] {
+        let mut buffer = vec![STAIN; size];
+        assert_eq!(board.write_ticket(&mut buffer), [0, 0, 8]);
+        assert_eq!(buffer, [&ticket[..], &vec![STAIN; size - 8]].concat());
+    }
+}
+
+/// A second board: the net at each place number, and what each column and each track must pass, kept through every edit.
+struct Kept {
+    kind: u8,
+    n: usize,
+    byte2: usize,
+    at: [u8; 1024],
+    columns: Vec<i32>,
+    tracks: Vec<i32>,
+}
+
+/// Counts the lines from the first to the last of a net, unless they are one; a net all before line 1, or all past the last, at that
+/// one if `beside`.
+fn count(lines: &mut [i32], by: i32, at: impl Iterator<Item = usize> + Clone, beside: bool) {
+    let (first, last) = (at.clone().min().expect("a pin"), at.max().expect("a pin"));
+    let size = lines.len();
+    if first < last {
+        lines[first.max(1) - 1..last.min(size)].iter_mut().for_each(|x| *x += by);
+    } else if beside && (first == 0 || first == size + 1) {
+        lines[first.clamp(1, size) - 1] += by;
+    }
+}
+
+impl Kept {
+    fn start(kind: u64, n: u64, byte2: u64) -> (Kept, [u64; 2]) {
+        let number = match (kind, n, byte2) {
+            (0 | 4.., _, _) => 2,
+            (_, 0 | 91.., _) => 3,
+            (_, _, 0) | (1 | 2, _, 9..) | (3, _, 91..) => 4,
+            _ => 0,
+        };
+        let (kind, n, byte2) = if number == 0 { (kind as u8, n as usize, byte2 as usize) } else { (ROW, 1, 1) };
+        (Kept { kind, n, byte2, at: [0; 1024], columns: vec![0; n], tracks: vec![0; byte2] }, [number, 0])
+    }
+
+    fn is_place(&self, place: u64) -> bool {
+        let last = match (place / 256, self.kind) {
+            (0, _) | (1, CHANNEL | BOX) => self.n,
+            (2 | 3, BOX) => self.byte2,
+            _ => 0,
+        };
+        (1..=last as u64).contains(&(place % 256))
+    }
+
+    fn has(&self, net: u64) -> bool {
+        net > 0 && self.at.iter().any(|m| *m as u64 == net)
+    }
+
+    fn recount(&mut self, net: u8, by: i32) {
+        let pins = self.at.iter().enumerate().filter(|(_, m)| **m == net).map(|(place, _)| (place / 256, place % 256));
+        let (n, w) = (self.n, self.byte2);
+        let line = move |side: usize, place: usize, across: bool| match side {
+            NORTH | SOUTH if across => place,
+            WEST | EAST if !across => place,
+            WEST | SOUTH => 0,
+            _ => 1 + if across { n } else { w },
+        };
+        count(&mut self.columns, by, pins.clone().map(|(side, place)| line(side, place, true)), self.kind == BOX);
+        if self.kind == BOX {
+            count(&mut self.tracks, by, pins.map(|(side, place)| line(side, place, false)), true);
+        }
+    }
+
+    fn add(&mut self, net: u64, places: &[u64]) -> [u64; 2] {
+        if !(1..=180).contains(&net) {
+            return [7, 0];
+        }
+        if self.has(net) {
+            return [20, net];
+        }
+        if places.len() < 2 {
+            return [21, places.len() as u64];
+        }
+        let before = self.at;
+        for (i, place) in places.iter().enumerate() {
+            if !self.is_place(*place) || self.at[*place as usize] != 0 {
+                self.at = before;
+                return [21, i as u64];
+            }
+            self.at[*place as usize] = net as u8;
+        }
+        self.recount(net as u8, 1);
+        [0, 0]
+    }
+
+    fn drop(&mut self, net: u64) -> [u64; 2] {
+        if !(1..=180).contains(&net) {
+            return [7, 0];
+        }
+        if !self.has(net) {
+            return [22, net];
+        }
+        self.recount(net as u8, -1);
+        self.at.iter_mut().filter(|m| **m as u64 == net).for_each(|m| *m = 0);
+        [0, 0]
+    }
+
+    fn make(&mut self, call: &Call) -> [u64; 2] {
+        match call {
+            Call::Start(kind, n, byte2) => {
+                let (board, outcome) = Kept::start(*kind, *n, *byte2);
+                *self = board;
+                outcome
+            }
+            Call::Add(net, places) => self.add(*net, places),
+            Call::Drop(net) => self.drop(*net),
+            Call::Write(size) => match self.ticket().len() {
+                length if length > *size => [19, length as u64],
+                _ => [0, 0],
+            },
+        }
+    }
+
+    /// By way of the flat ticket.
+    fn ticket(&self) -> Vec<u8> {
+        let mut flat = vec![self.kind, self.n as u8, self.byte2 as u8];
+        flat.extend((0..1024).filter(|place| self.is_place(*place)).map(|place| self.at[place as usize]));
+        unflatten(&flat).expect("a good flat ticket")
+    }
+
+    fn figures(&self) -> [u64; 3] {
+        let [across, up] = [&self.columns, &self.tracks].map(|lines| *lines.iter().max().expect("a line") as usize);
+        let floor = if self.kind == BOX { floor(self.n, self.byte2, across, up) } else { 0 };
+        [across, up, floor].map(|x| x as u64)
+    }
+}
+
+fn numbers(line: &str) -> Vec<u64> {
+    line.split(' ').map(|word| word.trim_end().parse().expect("a number")).collect()
+}
+
+/// Both boards after a call: the line is what the second board says, and of a refused edit the board is as it was.
+fn same_after(board: &mut Board, kept: &mut Kept, call: &Call) -> [u64; 2] {
+    let before = board.clone();
+    let printed = numbers(&line(board, call));
+    let outcome = kept.make(call);
+    assert_eq!(printed[..2], outcome, "{call:?}");
+    if outcome != [0, 0] && !matches!(call, Call::Start(..)) || matches!(call, Call::Write(_)) {
+        assert_eq!(*board, before, "{call:?}");
+    }
+    let ticket = kept.ticket();
+    assert_eq!(board.ticket(), ticket, "{call:?}");
+    let t = read(&ticket).expect("a board's ticket is a good one");
+    let f = figures(&t);
+    assert_eq!((board.figures(), [f.across, f.up, f.floor].map(|x| x as u64)), (kept.figures(), kept.figures()), "{ticket:?}");
+    assert_eq!(t.nets(), board.nets().keys().copied().collect::<Vec<u8>>());
+    assert!(board.nets().values().all(|places| places.len() >= 2));
+    let mut buffer = [STAIN; RECORD_BUFFER];
+    if !matches!(call, Call::Write(size) if *size < ticket.len()) {
+        buffer[..ticket.len()].copy_from_slice(&ticket);
+    }
+    assert_eq!(printed.last(), Some(&hash(0, &buffer)), "{call:?}");
+    match call {
+        Call::Write(_) => assert_eq!((printed.len(), printed[2]), (4, if outcome[0] == 0 { ticket.len() as u64 } else { 0 })),
+        Call::Start(first, ..) | Call::Add(first, _) | Call::Drop(first) => {
+            assert_eq!(printed[2..8], [&[kept.has(*first) as u64, f.nets as u64], &kept.figures()[..], &[ticket.len() as u64]].concat());
+        }
+    }
+    outcome
+}
+
+/// How many calls of the histories gave each number.
+fn histories(r: &mut Numbers, many: usize, calls: usize) -> [usize; 256] {
+    let mut given = [0; 256];
+    for _ in 0..many {
+        let shape = random_shape(r);
+        let filled = r.below(2) == 0;
+        let history = edits::history(r, shape, filled, calls, 4);
+        let (mut board, (mut kept, _)) = (Board::fresh(), Kept::start(1, 1, 1));
+        let mut survivors: Vec<&Call> = Vec::new();
+        for call in &history {
+            let [number, _] = same_after(&mut board, &mut kept, call);
+            given[number as usize] += 1;
+            match call {
+                Call::Add(..) if number == 0 => survivors.push(call),
+                Call::Drop(net) if number == 0 => survivors.retain(|add| !matches!(add, Call::Add(m, _) if m == net)),
+                _ => {}
+            }
+        }
+        let mut again = started(shape.0, shape.1, shape.2);
+        survivors.iter().for_each(|add| drop(line(&mut again, add)));
+        assert_eq!(again, board, "the nets added and not since dropped");
+    }
+    given
+}
+
+#[test]
+fn random_histories() {
+    let given = histories(&mut Numbers::new(83), 120, 120);
+    assert!(given[0] > 8_000, "{}", given[0]);
+    for number in [7, 19, 20, 21, 22] {
+        assert!(given[number] > 150, "{number}: {}", given[number]);
+    }
+}
+
+#[test]
+fn long_histories_of_small_boards() {
+    let r = &mut Numbers::new(89);
+    for (kind, n, byte2) in [(ROW, 5, 2), (CHANNEL, 3, 1), (BOX, 1, 1), (BOX, 1, 3), (BOX, 3, 1), (BOX, 2, 2), (BOX, 5, 4)] {
+        let (mut board, (mut kept, _)) = (Board::fresh(), Kept::start(1, 1, 1));
+        for call in edits::history(r, (kind, n, byte2), false, 3000, 6) {
+            same_after(&mut board, &mut kept, &call);
+        }
+    }
+}
+
+/// Every list of three places or fewer out of all those near the sides, on an empty board and on one with a net.
+#[test]
+fn every_short_list_on_small_boards() {
+    let (mut accepted, mut right) = (0, 0);
+    for (kind, n, byte2) in [(ROW, 3, 1), (CHANNEL, 2, 1), (BOX, 1, 1), (BOX, 1, 2), (BOX, 2, 1)] {
+        let last = n.max(byte2) + 1;
+        let mut near: Vec<u64> = (NORTH..=EAST).flat_map(|side| (0..=last).map(move |i| place_number(side, i))).collect();
+        near.extend([255, 1025]);
+        let mut lists: Vec<Vec<u64>> = vec![vec![]];
+        for i in 0..3 {
+            let longest: Vec<Vec<u64>> = lists.iter().filter(|list| list.len() == i).cloned().collect();
+            lists.extend(longest.iter().flat_map(|list| near.iter().map(move |place| [&list[..], &[*place]].concat())));
+        }
+        let all = place_numbers(kind, n, byte2);
+        for first in [vec![], vec![Call::Add(9, vec![all[0], all[2]])]] {
+            // Two or three of the free places, in any order.
+            let free = all.len() - 2 * first.len();
+            right += free * (free - 1) + free * (free - 1) * free.saturating_sub(2);
+            for list in &lists {
+                let (mut board, (mut kept, _)) = (Board::fresh(), Kept::start(1, 1, 1));
+                let calls = [vec![Call::Start(kind as u64, n as u64, byte2 as u64)], first.clone()].concat();
+                calls.iter().for_each(|call| drop((line(&mut board, call), kept.make(call))));
+                let outcome = same_after(&mut board, &mut kept, &Call::Add(7, list.clone()));
+                accepted += (outcome == [0, 0]) as usize;
+            }
+        }
+    }
+    assert_eq!((accepted, right), (460, 460));
+}
+
+/// A ticket's nets, added in any order, make that ticket.
+#[test]
+fn boards_of_random_tickets() {
+    let r = &mut Numbers::new(97);
+    for _ in 0..400 {
+        let t = random(r);
+        if t[0] == TWO_LAYER {
+            continue;
+        }
+        let mut calls = of_ticket(&t);
+        r.shuffle(&mut calls[1..]);
+        let mut board = Board::fresh();
+        calls.iter().for_each(|call| drop(line(&mut board, call)));
+        assert_eq!(board.ticket(), t);
+    }
+    let one_net = encode(ROW, 90, 8, &slots(ROW, 90, 8).into_iter().map(|place| (place, LARGEST_NET)).collect());
+    assert_eq!(of_ticket(&one_net), [Call::Start(1, 90, 8), Call::Add(180, (1..=90).collect())]);
+}
+
+#[test]
+fn place_numbers_of_the_sides() {
+    assert_eq!(place_numbers(ROW, 2, 8), [1, 2]);
+    assert_eq!(place_numbers(CHANNEL, 2, 8), [1, 2, 257, 258]);
+    assert_eq!(place_numbers(BOX, 1, 2), [1, 257, 513, 514, 769, 770]);
+    assert_eq!(place_numbers(BOX, 90, 90).len(), (NORTH..=EAST).map(|side| places(side, 90, 90)).sum());
+}
+
+#[test]
+fn records_by_hand() {
+    assert_eq!(Call::Start(3, 1, 2).record(), [1, 3, 0, 3, 0, 1, 0, 2, 0]);
+    assert_eq!(Call::Add(9, vec![513, 514]).record(), [2, 3, 0, 9, 0, 1, 2, 2, 2]);
+    assert_eq!(Call::Add(9, vec![]).record(), [2, 1, 0, 9, 0]);
+    assert_eq!(Call::Drop(65536).record(), [131, 1, 0, 0, 0, 1, 0, 0, 0, 0, 0]);
+    assert_eq!(Call::Write(300).record(), [4, 1, 0, 44, 1]);
+    let input = [Call::Start(3, 1, 2), Call::Add(9, vec![513, 514]), Call::Write(6), Call::Drop(65536)].map(|call| call.record()).concat();
+    let stained = |front: &[u8]| hash(0, &[front, &vec![STAIN; RECORD_BUFFER - front.len()]].concat());
+    let (empty, full, none) = (stained(&[3, 1, 2, 0]), stained(&[3, 1, 2, 4, 3, 9, 9]), stained(&[]));
+    let right = format!("0 0 0 0 0 0 1 4 {empty}\n0 0 1 1 1 1 2 7 {full}\n19 7 0 {none}\n7 0 0 1 1 1 2 7 {full}\n");
+    assert_eq!(run(&input), right);
+}
+
+#[test]
+fn runs_are_the_lines_of_their_calls() {
+    let r = &mut Numbers::new(101);
+    for _ in 0..40 {
+        let shape = random_shape(r);
+        let calls = edits::history(r, shape, false, 40, 2);
+        let mut board = Board::fresh();
+        let right: String = calls.iter().map(|call| line(&mut board, call)).collect();
+        let [narrow, wide] = [Call::record, Call::wide_record].map(|to| calls.iter().flat_map(to).collect::<Vec<u8>>());
+        assert_eq!((run(&narrow), run(&wide)), (right.clone(), right.clone()));
+        let cut = run(&narrow[..narrow.len() - 1]);
+        assert_eq!((right.starts_with(&cut), right.lines().count()), (true, cut.lines().count() + 1));
+    }
+}
+
+#[test]
+fn what_ends_a_run() {
+    let drop = Call::Drop(1).record();
+    let lines = |middle: Vec<u8>| run(&[&drop[..], &middle, &drop].concat()).lines().count();
+    for wide in [false, true] {
+        for (code, numbers) in [(0, 1), (5, 1), (127, 3), (1, 0), (1, 2), (2, 0), (3, 0), (4, 0)] {
+            assert_eq!(lines(record(code, wide, &vec![1; numbers])), 1, "{code}");
+        }
+        assert_eq!(lines(record(4, wide, &[513])), 1);
+        for (code, numbers) in [(1, 3), (1, 9), (2, 1), (2, MOST_NUMBERS), (3, 2), (4, MOST_NUMBERS)] {
+            assert_eq!(lines(record(code, wide, &vec![1; numbers])), 3, "{code}");
+            assert_eq!(lines(record(code, wide, &[1; MOST_NUMBERS + 1])), 1, "{code}");
+        }
+    }
+    assert_eq!(lines(record(4, true, &[MAX])), 1);
+    assert_eq!((run(&[]), run(&drop[..4])), (String::new(), String::new()));
+}
