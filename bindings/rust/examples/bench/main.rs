@@ -2,8 +2,9 @@
 //!
 //! Lay is held against plain code for the same construction and, as the limit to look at, against memset of the bytes that it
 //! writes; of two-layer channels against Lay of a channel; Check against a plain flood fill of the same wiring; a ticket that is
-//! written, or turned flat and back, against reading it.
+//! written, or turned flat and back, against reading it; a board that is edited against a survey of its ticket.
 
+mod board;
 mod flood;
 mod plain;
 mod wirings;
@@ -253,4 +254,5 @@ fn main() {
     call_table(r);
     written_table();
     flat_table(r);
+    board::table();
 }

@@ -1,0 +1,78 @@
+//! Boards have no call from Rust yet: the program board_timing edits the full box 90 × 90, and its processor time is measured.
+
+use std::io::Write;
+use std::path::{Path, PathBuf};
+use std::process::{Command, Stdio};
+
+/// C's rusage on 64-bit Linux: times in seconds and microseconds, and counts.
+#[repr(C)]
+struct Usage {
+    user: [i64; 2],
+    system: [i64; 2],
+    counts: [i64; 14],
+}
+
+extern "C" {
+    fn getrusage(who: i32, usage: *mut Usage) -> i32;
+}
+
+/// Processor time of the programs that have run and ended.
+fn children_seconds() -> f64 {
+    const CHILDREN: i32 = -1;
+    let mut usage = Usage { user: [0; 2], system: [0; 2], counts: [0; 14] };
+    // Sound: the struct is as long as C's, and its number of the children is Linux's.
+    unsafe { getrusage(CHILDREN, &mut usage) };
+    [usage.user, usage.system].iter().map(|[seconds, micros]| *seconds as f64 + *micros as f64 * 1e-6).sum()
+}
+
+/// What a round does; the numbers are the program's.
+#[derive(Clone, Copy)]
+enum Mode {
+    Nothing = 0,
+    Drop = 1,
+    DropAndAdd = 2,
+    Survey = 3,
+    Figures = 4,
+}
+
+/// Seconds that the program takes for so many rounds.
+fn run(program: &Path, mode: Mode, rounds: u64) -> f64 {
+    let before = children_seconds();
+    let mut child = Command::new(program).stdin(Stdio::piped()).stdout(Stdio::piped()).spawn().expect("the program starts");
+    let input = [&[mode as u8][..], &rounds.to_le_bytes()].concat();
+    child.stdin.take().expect("a pipe").write_all(&input).expect("the program reads its input");
+    let output = child.wait_with_output().expect("the program ends");
+    assert!(output.status.success() && output.stdout.ends_with(b"\n"), "the program prints a line");
+    children_seconds() - before
+}
+
+/// So many that the start of the program does not count.
+const ROUNDS: u64 = 200_000;
+
+fn program() -> PathBuf {
+    Path::new(env!("CARGO_MANIFEST_DIR")).join("../../target/bin/board_timing")
+}
+
+/// A net of the full box is dropped, and added again, against a survey of the box's ticket; the best of ten runs in turns.
+pub fn table() {
+    let program = program();
+    if !program.is_file() {
+        println!("\nNo table of boards: run `rt check board_timing` at the top of the repository first.");
+        return;
+    }
+    let modes = [Mode::Drop, Mode::DropAndAdd, Mode::Survey, Mode::Figures];
+    let (mut start, mut best) = (f64::INFINITY, modes.map(|_| f64::INFINITY));
+    for _ in 0..10 {
+        start = start.min(run(&program, Mode::Nothing, 0));
+        for (a, mode) in modes.into_iter().enumerate() {
+            best[a] = best[a].min(run(&program, mode, ROUNDS));
+        }
+    }
+    let [drop, both, survey, figures] = best.map(|seconds| (seconds - start) / ROUNDS as f64 * 1e6);
+    let add = both - drop;
+    println!("\n| board, full box 90 × 90 | µs | of a survey's time |\n|---|---|---|");
+    let lines = [("drop a net", drop), ("add it again", add), ("survey its ticket", survey), ("read across, up and floor", figures)];
+    for (name, time) in lines {
+        println!("| {name} | {time:.3} | {:.3} |", time / survey);
+    }
+}
