@@ -23,18 +23,25 @@ use Rattle.problem.specs.Problem.{pinsIn, pinCount, shapeOf, Good}
 use Rattle.problem.proofs.Sizes.{side-fits}
 use Rattle.problem.proofs.Pinned.{pinned, a-pin}
 use Rattle.board_law.specs.Places.{placeNumber, sideIn, placeIn, isPlace, listed}
-use Rattle.board_law.specs.Edits.{isThere, isFree, addRefusal, dropRefusal, Sound}
+use Rattle.board_law.specs.Edits.{fresh, isThere, isFree, addRefusal, dropRefusal, Sound}
 use Rattle.board_law.specs.History.{NetPlaces, isIn, isTaken, isOpen}
 use Rattle.board_law.proofs.Places.{number-back, is-place}
 
 -- what holds after every call on a board that began as q₀, where it holds q and the nets are ns: pins and places are those of Kept, and the
--- places are still those of q₀, by which the nets' own refusals go
+-- kind and the shape are still those of q₀, by which the nets' own refusals go
 pub record Holds (q₀ q : Problem) (ns : NetPlaces) : Type 0 where
   pub pins : (s : Side) (a m : ℕ) → In a (places (shapeOf q) s) → In m largestNet
       → eqb (pinsIn (q .pins) s a) m ≡ listed (ns m) (placeNumber s a)
   pub listed-places : (m v : ℕ) → In m largestNet → listed (ns m) v ≡ true → isPlace q v ≡ true
-  pub shape : isPlace q ≡ isPlace q₀
+  pub kind : q .kind ≡ q₀ .kind
+  pub n : q .n ≡ q₀ .n
+  pub byte2 : q .byte2 ≡ q₀ .byte2
   pub sound : Sound q
+
+-- which numbers are places goes by kind and shape alone
+pub same-places : (q q′ : Problem) → q′ .kind ≡ q .kind → q′ .n ≡ q .n → q′ .byte2 ≡ q .byte2 → isPlace q′ ≡ isPlace q
+unfolding isPlace
+same-places q q′ kinds ns bytes i = isPlace (fresh (kinds i) (ns i .0) (bytes i))
 
 -- two tests of which each passes where the other does
 same-test : (s t : Bool) → (s ≡ true → t ≡ true) → (t ≡ true → s ≡ true) → s ≡ t
@@ -107,7 +114,7 @@ module _ {q₀ q : Problem} {ns : NetPlaces} (h : Holds q₀ q ns) where
   free-here v = split (isPlace q v) (λ is. ap (λ (t : Bool). isPlace q v && t) (open-same v is)) (λ none. rw none)
 
   free-same : isFree q p ≡ isOpen q₀ ns
-  free-same = fun-ext free-here ∙ (λ i v. h .shape i v && not (isTaken ns v))
+  free-same = fun-ext free-here ∙ (λ i v. same-places q₀ q (h .kind) (h .n) (h .byte2) i v && not (isTaken ns v))
 
   -- ---- the refusals; a number that is no net's is refused whatever the board holds
 

@@ -36,7 +36,9 @@ start-holds kind n byte2 sound =
     record {
       pins = λ s a m i j. ne-eqb _ m (λ e. omega (arith, start-bare kind n byte2 s a)) ∙ sym (listed-none (placeNumber s a));
       listed-places = λ m v i e. absurd (true≢false (sym e ∙ listed-none v));
-      shape = refl;
+      kind = refl;
+      n = refl;
+      byte2 = refl;
       sound = sound;
     }
 
@@ -52,14 +54,17 @@ calls-hold h (drops c more) = calls-hold (net-dropped h c) more
 
 -- every board may stand for the one that it began as
 anew : {q₀ q : Problem} {ns : NetPlaces} → Holds q₀ q ns → Holds q q ns
-anew h = record { pins = h .pins; listed-places = h .listed-places; shape = refl; sound = h .sound }
+anew h = record { pins = h .pins; listed-places = h .listed-places; kind = refl; n = refl; byte2 = refl; sound = h .sound }
 
-kept : {q₀ q : Problem} {ns : NetPlaces} → Holds q₀ q ns → Kept q ns
+kept : {q₀ q : Problem} {ns : NetPlaces} → Holds q₀ q ns → Kept q₀ q ns
 unfolding surveyOf
 kept {q} h =
     let good = h .sound .good in
     let read = read-back q good (h .sound .sized) in
     record {
+      kind = h .kind;
+      n = h .n;
+      byte2 = h .byte2;
       pins = h .pins;
       places = h .listed-places;
       add-refusals = adds-agree (anew h);
@@ -71,5 +76,5 @@ kept {q} h =
     }
 
 pub history : (kind n byte2 : ℕ) (cs : List Call) (q : Problem) → LeadsTo (startProblem kind n byte2) cs q
-    → Kept q (netsAfter (startProblem kind n byte2) noNets cs)
+    → Kept (startProblem kind n byte2) q (netsAfter (startProblem kind n byte2) noNets cs)
 history kind n byte2 cs q runs = kept (calls-hold (start-holds kind n byte2 (start-sound kind n byte2)) runs)

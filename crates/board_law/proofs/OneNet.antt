@@ -15,15 +15,11 @@ use Rattle.problem.specs.Problem.{pinsIn, shapeOf}
 use Rattle.board_law.specs.Places.{placeNumber, isPlace, listed}
 use Rattle.board_law.specs.Edits.{fresh, Sound, Becomes}
 use Rattle.board_law.specs.History.{NetPlaces, changed}
-use Rattle.board_law.proofs.Agreement.{Holds}
+use Rattle.board_law.proofs.Agreement.{Holds, same-places}
 
--- a board that gets other pins keeps its shape and its places
+-- a board that gets other pins keeps its shape
 same-shape : {q q′ : Problem} {p : Pins} → Becomes q p q′ → shapeOf q′ ≡ shapeOf q
 same-shape b i = shapeOf (fresh (b .kind i) (b .n i .0) (b .byte2 i))
-
-same-places : {q q′ : Problem} {p : Pins} → Becomes q p q′ → isPlace q′ ≡ isPlace q
-unfolding isPlace
-same-places b i = isPlace (fresh (b .kind i) (b .n i .0) (b .byte2 i))
 
 -- what holds of a choice, where it holds of each that can be chosen
 pub chosen : {A : Type 0} (P : A → Type 0) (t : Bool) {x y : A} → (t ≡ true → P x) → (t ≡ false → P y) → P (cond t x y)
@@ -35,7 +31,7 @@ pub one-changes : {q₀ q q′ : Problem} {ns : NetPlaces} {p : Pins} (m : ℕ) 
     → ((s : Side) (a : ℕ) → In a (places (shapeOf q) s) → eqb (p s a) m ≡ listed l (placeNumber s a))
     → ((s : Side) (a x : ℕ) → In a (places (shapeOf q) s) → 1 ≤ x → x ≢ m → eqb (p s a) x ≡ eqb (pinsIn (q .pins) s a) x)
     → Holds q₀ q′ (changed ns m l)
-one-changes {q} {ns} {p} m l h b sound on own others =
+one-changes {q} {q′} {ns} {p} m l h b sound on own others =
     record {
       pins = λ s a x i j.
           let i′ = subst (λ g. In a (places g s)) (same-shape b) i in
@@ -44,8 +40,10 @@ one-changes {q} {ns} {p} m l h b sound on own others =
           (λ e. ap (eqb (p s a)) (eqb-true x m e) ∙ own s a i′)
           (λ e. others s a x i′ (j .0) (eqb-false x m e) ∙ h .pins s a x i′ j);
       listed-places = λ x v j e.
-          ap (λ is. is v) (same-places b)
+          ap (λ is. is v) (same-places q q′ (b .kind) (b .n) (b .byte2))
           ∙ chosen (λ k. listed k v ≡ true → isPlace q v ≡ true) (eqb x m) (λ same. on v) (λ other. h .listed-places x v j) e;
-      shape = same-places b ∙ h .shape;
+      kind = b .kind ∙ h .kind;
+      n = b .n ∙ h .n;
+      byte2 = b .byte2 ∙ h .byte2;
       sound = sound;
     }

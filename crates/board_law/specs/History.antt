@@ -13,7 +13,8 @@
 --                        "A refused call leaves the board as it found it"
 --   netsAfter q ns cs    the nets after a list of calls, the first call first
 --   LeadsTo q cs q′      a board that held q holds q′ after the calls cs, each of which kept its contract
---   Kept q ns            what the board holds, where the nets are ns:
+--   Kept q₀ q ns         what a board that started as q₀ holds, where the nets are ns:
+--     kind, n, byte2       "A board has a kind and a shape", and no call changes them
 --     pins, places         "the pins are those of the nets": the net at a place has it on its list, and no other has; every place on
 --                          a list is a place of the board
 --     add-refusals, drop-refusals
@@ -81,7 +82,10 @@ pub data LeadsTo : Problem → List Call → Problem → Type 0 where
   drops : {q q′ q″ : Problem} {m : ℕ} {r : Refusal} {cs : List Call}
       → NetDropped q m r q′ → LeadsTo q′ cs q″ → LeadsTo q (dropping m ∷ cs) q″
 
-pub record Kept (q : Problem) (ns : NetPlaces) : Type 0 where
+pub record Kept (q₀ q : Problem) (ns : NetPlaces) : Type 0 where
+  pub kind : q .kind ≡ q₀ .kind
+  pub n : q .n ≡ q₀ .n
+  pub byte2 : q .byte2 ≡ q₀ .byte2
   pub pins : (s : Side) (a m : ℕ) → In a (places (shapeOf q) s) → In m largestNet
       → eqb (pinsIn (q .pins) s a) m ≡ listed (ns m) (placeNumber s a)
   pub places : (m v : ℕ) → In m largestNet → listed (ns m) v ≡ true → isPlace q v ≡ true
