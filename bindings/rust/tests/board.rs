@@ -81,9 +81,11 @@ fn boards_of_any_shape() {
 #[test]
 fn longest_boards() {
     let (side, most) = (LONGEST_SIDE, MOST_TRUNK_LAYERS);
-    let shapes = [(ROW, side, 1), (CHANNEL, side, most), (BOX, side, 1), (BOX, 1, side), (BOX, side, side)];
-    let done = same_histories(&mut Numbers::new(805), 4, 600, |r| r.pick(&shapes));
-    assert!(done > 20_000, "{done}");
+    let trunks = [(ROW, side, 1), (ROW, side, most), (CHANNEL, side, 1), (CHANNEL, side, most)];
+    let boxes = [(BOX, side, 1), (BOX, 1, side), (BOX, side, 2), (BOX, 2, side), (BOX, side, side)];
+    let shapes = [&trunks[..], &boxes].concat();
+    let done = same_histories(&mut Numbers::new(805), 6, 600, |r| r.pick(&shapes));
+    assert!(done > 30_000, "{done}");
 }
 
 /// Any numbers near the edges of their ranges; after each start a few edits.

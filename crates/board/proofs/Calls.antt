@@ -1,12 +1,12 @@
 -- What a call on a board answers, test by test, as its contract states it.
 use Prim.Native.Nat.{ℕ, _+_, _-_, _≤_, _<_}
-use mathlib.Core.Path.{_≡_, sym, ap, _∙_, subst}
+use mathlib.Core.Path.{_≡_, sym, ap, ap₂, _∙_, subst}
 use mathlib.Core.Logic.{_≢_}
-use mathlib.Core.Bool.{Bool, true, false, true≢false}
-use mathlib.Core.List.{List, [], _++_}
+use mathlib.Core.Bool.{Bool, true, false, true≢false, _||_, or-comm}
+use mathlib.Core.List.{List, []}
 use native.Mathlib.Omega.{arith}
 use lib.Dec.{leb}
-use lib.ListN.{length, drop, length-append}
+use lib.ListN.{length}
 use borrow.Author.Tests.{eq-eqb, ne-eqb, le-leb, lt-leb}
 use Rattle.counting.specs.Counting.{In}
 use Rattle.counting.proofs.Sums.{split}
@@ -14,19 +14,20 @@ use Rattle.terms.specs.Limits.{longestSide, largestNet, within}
 use Rattle.terms.specs.Kinds.{Side}
 use Rattle.terms.specs.Refusals.{refusal, accepted}
 use Rattle.terms.specs.declared.Refusal.{Refusal}
+use Rattle.grid.specs.Legal.{entry}
 use Rattle.problem.specs.declared.Pins.{Pins}
 use Rattle.problem.specs.declared.Problem.{Problem}
 use Rattle.problem.specs.Problem.{pinsIn}
-use Rattle.ticket_bytes.specs.Bytes.{Sized, bytesOf}
-use Rattle.output.specs.declared.Written.{Written}
-use Rattle.output.specs.Writing.{writtenFor, writtenOver, writtenIn, Wrote}
-use Rattle.output.proofs.Laws.{wrote-front}
-use Rattle.ticket_sides.specs.Format.{longestTicket}
-use Rattle.ticket.specs.declared.Reading.{Reading}
-use Rattle.ticket.proofs.Longest.{longest}
-use Rattle.ticket_bytes.proofs.ReadBack.{read-back}
+use Rattle.ticket_bytes.specs.Bytes.{Sized}
 use Rattle.board_law.specs.Edits.{isThere, isFree, firstWrong, addRefusal, dropRefusal, withNet, withoutNet, Sound, NetAdded, NetDropped}
-use Rattle.board_law.proofs.Changes.{becomes, add-sound, drop-sound}
+use Rattle.board_law.specs.Counts.{Counted}
+use Rattle.board_law.specs.Runs.{Ends, lowAlong, highAlong, boxWidth, Recounted}
+use Rattle.board_law.proofs.Changes.{becomes, add-sound, add-apart, drop-sound, drop-apart}
+use Rattle.board_law.proofs.Recount.{counts-with, counts-without}
+use Rattle.board_law.proofs.Ends.{ends-turned}
+use Rattle.board_pins.proofs.Frees.{found}
+use Rattle.board_sides.specs.declared.EndPlaces.{EndPlaces}
+use Rattle.board.specs.declared.Board.{Board}
 
 -- ---- adding
 
@@ -69,38 +70,64 @@ not-added q x q′ m l r s e same answer refused bad sound =
       sound = subst Sound (sym same) sound;
     }
 
-pub is-added : (q x q′ : Problem) (ps : Pins) (m : ℕ) (l : List ℕ) (r : Refusal) → x ≡ q → r ≡ refusal 0 0
-    → refusal 0 0 ≡ addRefusalOn x m l
-    → ((s : Side) (a : ℕ) → In a longestSide → pinsIn ps s a ≡ withNet (pinsIn (x .pins)) m l s a)
-    → q′ ≡ record { kind = x .kind; n = x .n; byte2 = x .byte2; nets = x .nets + 1; pins = ps } → Sized q′
-    → Sound q → NetAdded q m l r q′
-is-added q x q′ ps m l r e answer right stands is sized sound = subst (λ (y : Problem). NetAdded y m l r q′) e on-x
-  where
-    sound-x : Sound x
-    sound-x = subst Sound (sym e) sound
+-- what the calls that look for a net's end places and count anew say, where y is the problem with the net: a is where it stands on south
+-- and north, e on west and east
+pub record Recounts (y : Problem) (m step : ℕ) (a e : EndPlaces) (columns tracks columns′ tracks′ : List ℕ) : Type 0 where
+  pub along : Ends (entry (y .pins .south)) (entry (y .pins .north)) m (a .first) (a .last) (a .one) (a .two)
+  pub ends : Ends (entry (y .pins .west)) (entry (y .pins .east)) m (e .first) (e .last) (e .one) (e .two)
+  pub on-columns : Recounted (lowAlong (a .first) (e .one) (y .n .0 + 1)) (highAlong (a .last) (e .two) (y .n .0 + 1)) (y .n .0) step
+      columns columns′
+  pub on-tracks : Recounted (lowAlong (e .first) (a .one) (boxWidth y + 1)) (highAlong (e .last) (a .two) (boxWidth y + 1)) (boxWidth y) step
+      tracks tracks′
 
-    pins : (s : Side) (a : ℕ) → In a longestSide → pinsIn (q′ .pins) s a ≡ withNet (pinsIn (x .pins)) m l s a
-    pins s a i = ap (λ (y : Problem). pinsIn (y .pins) s a) is ∙ stands s a i
+-- of a grid of k places, which are as many as l
+pub recounted-along : (k l step : ℕ) (a e : EndPlaces) (old new : List ℕ) → k ≡ l
+    → Recounted (lowAlong (a .first) (e .one) (k + 1)) (highAlong (a .last) (e .two) (k + 1)) k step old new
+    → Recounted (lowAlong (a .first) (e .one) (l + 1)) (highAlong (a .last) (e .two) (l + 1)) l step old new
+recounted-along k l step a e old new same =
+    subst (λ (i : ℕ). Recounted (lowAlong (a .first) (e .one) (i + 1)) (highAlong (a .last) (e .two) (i + 1)) i step old new) same
 
-    ok : accepted (addRefusalOn x m l) ≡ true
-    ok = ap accepted (sym right)
+module _ (q x q′ : Problem) (ps : Pins) (m : ℕ) (l : List ℕ) (r : Refusal) (e : x ≡ q) (answer : r ≡ refusal 0 0)
+    (right : refusal 0 0 ≡ addRefusalOn x m l)
+    (stands : (s : Side) (a : ℕ) → In a longestSide → pinsIn ps s a ≡ withNet (pinsIn (x .pins)) m l s a)
+    (is : q′ ≡ record { kind = x .kind; n = x .n; byte2 = x .byte2; nets = x .nets + 1; pins = ps }) (sized : Sized q′)
+    (sound : Sound q) where
+  sound-x : Sound x
+  sound-x = subst Sound (sym e) sound
 
-    kind : q′ .kind ≡ x .kind
-    kind = ap (λ (y : Problem). y .kind) is
+  pins : (s : Side) (a : ℕ) → In a longestSide → pinsIn (q′ .pins) s a ≡ withNet (pinsIn (x .pins)) m l s a
+  pins s a i = ap (λ (y : Problem). pinsIn (y .pins) s a) is ∙ stands s a i
 
-    n : q′ .n ≡ x .n
-    n = ap (λ (y : Problem). y .n) is
+  ok : accepted (addRefusalOn x m l) ≡ true
+  ok = ap accepted (sym right)
 
-    byte2 : q′ .byte2 ≡ x .byte2
-    byte2 = ap (λ (y : Problem). y .byte2) is
+  kind : q′ .kind ≡ x .kind
+  kind = ap (λ (y : Problem). y .kind) is
 
-    on-x : NetAdded x m l r q′
-    on-x = record {
-      refusal = answer ∙ right;
-      refused = λ bad. absurd (true≢false (sym (ap accepted answer) ∙ bad));
-      added = λ z. becomes sound-x kind n byte2 pins;
-      sound = add-sound m l sound-x ok sized pins kind n byte2 (ap (λ (y : Problem). y .nets) is);
-    }
+  n : q′ .n ≡ x .n
+  n = ap (λ (y : Problem). y .n) is
+
+  byte2 : q′ .byte2 ≡ x .byte2
+  byte2 = ap (λ (y : Problem). y .byte2) is
+
+  sound′ : Sound q′
+  sound′ = add-sound m l sound-x ok sized pins kind n byte2 (ap (λ (y : Problem). y .nets) is)
+
+  pub is-added : NetAdded q m l r q′
+  is-added = subst (λ (y : Problem). NetAdded y m l r q′) e (record {
+    refusal = answer ∙ right;
+    refused = λ bad. absurd (true≢false (sym (ap accepted answer) ∙ bad));
+    added = λ z. becomes sound-x kind n byte2 pins;
+    sound = sound′;
+  })
+
+  pub added-counts : {a b : EndPlaces} {columns tracks columns′ tracks′ : List ℕ}
+      → Recounts (record { kind = x .kind; n = x .n; byte2 = x .byte2; nets = x .nets + 1; pins = ps }) m 1 a b columns tracks columns′ tracks′
+      → Counted q columns tracks → Counted q′ columns′ tracks′
+  added-counts {a} {b} {columns} {tracks} {columns′} {tracks′} given counted =
+      let k = subst (λ (y : Problem). Recounts y m 1 a b columns tracks columns′ tracks′) (sym is) given in
+      counts-with (add-apart m l sound-x ok sized pins kind n byte2 (sound′ .good)) (ends-turned (k .along)) (k .ends) (k .on-columns)
+      (k .on-tracks) (subst (λ (y : Problem). Counted y columns tracks) (sym e) counted)
 
 -- ---- dropping
 
@@ -120,58 +147,63 @@ module _ (there : Bool) (m : ℕ) where
 abbrev dropRefusalOn : Problem → ℕ → Refusal
 dropRefusalOn q m = dropRefusal (isThere (pinsIn (q .pins)) m) m
 
-pub not-dropped : (q q′ : Problem) (m : ℕ) (r s : Refusal) → q′ ≡ q → r ≡ s → s ≡ dropRefusalOn q m → accepted s ≡ false
+pub not-dropped : (q x q′ : Problem) (m : ℕ) (r s : Refusal) → x ≡ q → q′ ≡ q → r ≡ s → s ≡ dropRefusalOn x m → accepted s ≡ false
     → Sound q → NetDropped q m r q′
-not-dropped q q′ m r s same answer refused bad sound =
+not-dropped q x q′ m r s e same answer refused bad sound =
     record {
-      refusal = answer ∙ refused;
+      refusal = answer ∙ refused ∙ ap (λ (y : Problem). dropRefusalOn y m) e;
       refused = λ z. same;
       dropped = λ ok. absurd (true≢false (sym ok ∙ ap accepted answer ∙ bad));
       sound = subst Sound (sym same) sound;
     }
 
-pub is-dropped : (q q′ : Problem) (ps : Pins) (m fewer : ℕ) (r : Refusal) → r ≡ refusal 0 0 → refusal 0 0 ≡ dropRefusalOn q m
-    → ((s : Side) (a : ℕ) → In a longestSide → pinsIn ps s a ≡ withoutNet (pinsIn (q .pins)) m s a) → fewer ≡ q .nets - 1
-    → q′ ≡ record { kind = q .kind; n = q .n; byte2 = q .byte2; nets = fewer; pins = ps } → Sized q′
-    → Sound q → NetDropped q m r q′
-is-dropped q q′ ps m fewer r answer right without one is sized sound =
-    record {
-      refusal = answer ∙ right;
-      refused = λ bad. absurd (true≢false (sym (ap accepted answer) ∙ bad));
-      dropped = λ z. becomes sound kind n byte2 pins;
-      sound = drop-sound m sound (ap accepted (sym right)) sized pins kind n byte2 (ap (λ (y : Problem). y .nets) is ∙ one);
-    }
-  where
-    pins : (s : Side) (a : ℕ) → In a longestSide → pinsIn (q′ .pins) s a ≡ withoutNet (pinsIn (q .pins)) m s a
-    pins s a i = ap (λ (y : Problem). pinsIn (y .pins) s a) is ∙ without s a i
+module _ (q x q′ : Problem) (ps : Pins) (m fewer : ℕ) (r : Refusal) (e : x ≡ q) (answer : r ≡ refusal 0 0)
+    (right : refusal 0 0 ≡ dropRefusalOn x m)
+    (without : (s : Side) (a : ℕ) → In a longestSide → pinsIn ps s a ≡ withoutNet (pinsIn (x .pins)) m s a) (one : fewer ≡ x .nets - 1)
+    (is : q′ ≡ record { kind = x .kind; n = x .n; byte2 = x .byte2; nets = fewer; pins = ps }) (sized : Sized q′) (sound : Sound q) where
+  sound-with : Sound x
+  sound-with = subst Sound (sym e) sound
 
-    kind : q′ .kind ≡ q .kind
-    kind = ap (λ (y : Problem). y .kind) is
+  pins-left : (s : Side) (a : ℕ) → In a longestSide → pinsIn (q′ .pins) s a ≡ withoutNet (pinsIn (x .pins)) m s a
+  pins-left s a i = ap (λ (y : Problem). pinsIn (y .pins) s a) is ∙ without s a i
 
-    n : q′ .n ≡ q .n
-    n = ap (λ (y : Problem). y .n) is
+  same-kind : q′ .kind ≡ x .kind
+  same-kind = ap (λ (y : Problem). y .kind) is
 
-    byte2 : q′ .byte2 ≡ q .byte2
-    byte2 = ap (λ (y : Problem). y .byte2) is
+  same-n : q′ .n ≡ x .n
+  same-n = ap (λ (y : Problem). y .n) is
 
--- ---- the board's ticket
+  same-byte2 : q′ .byte2 ≡ x .byte2
+  same-byte2 = ap (λ (y : Problem). y .byte2) is
 
-pub written-small : {bytes before after : List ℕ} {w : Written} → Wrote bytes before after w → w .length ≤ length after
-unfolding writtenFor writtenOver
-written-small {bytes} {before} {after} {w} wrote = split (leb (length bytes) (length before))
-    (λ t.
-    let size : w .length ≡ length bytes = ap (λ (x : Written). x .length) (wrote .answer) ∙ rw t in
-    let is : after ≡ bytes ++ drop (length bytes) before = wrote .buffer ∙ rw t in
-    omega (arith, size, ap length is ∙ length-append bytes (drop (length bytes) before)))
-    (λ t. let size : w .length ≡ 0 = ap (λ (x : Written). x .length) (wrote .answer) ∙ rw t in omega (arith, size))
+  dropping : accepted (dropRefusalOn x m) ≡ true
+  dropping = ap accepted (sym right)
 
--- a sound board's ticket is no longer than the longest one, so a buffer of that length has it
-pub read-off : {q x : Problem} {before after : List ℕ} {w : Written} → x ≡ q → length before ≡ longestTicket
-    → Wrote (bytesOf x) before after w → Sound q → writtenIn w after ≡ bytesOf q
-unfolding writtenFor
-read-off {q} {x} {before} {after} {w} e size wrote sound =
-    let read = read-back q (sound .good) (sound .sized) in
-    let short = longest (bytesOf q) (ap (λ (t : Reading). t .refusal .number) read) in
-    let room : leb (length (bytesOf x)) (length before) ≡ true =
-    le-leb (length (bytesOf x)) (length before) (omega (arith, size, short, ap (λ (y : Problem). length (bytesOf y)) e)) in
-    wrote-front wrote (ap (λ (y : Written). y .refusal .number) (wrote .answer) ∙ rw room) ∙ ap bytesOf e
+  pub is-dropped : NetDropped q m r q′
+  is-dropped = subst (λ (y : Problem). NetDropped y m r q′) e (record {
+    refusal = answer ∙ right;
+    refused = λ bad. absurd (true≢false (sym (ap accepted answer) ∙ bad));
+    dropped = λ z. becomes sound-with same-kind same-n same-byte2 pins-left;
+    sound =
+        drop-sound m sound-with dropping sized pins-left same-kind same-n same-byte2 (ap (λ (y : Problem). y .nets) is ∙ one);
+  })
+
+  pub dropped-counts : {a b : EndPlaces} {columns tracks columns′ tracks′ : List ℕ}
+      → Recounts x m 255 a b columns tracks columns′ tracks′ → Counted q columns tracks → Counted q′ columns′ tracks′
+  dropped-counts {columns = columns} {tracks = tracks} k counted =
+      counts-without (drop-apart m sound-with dropping sized pins-left same-kind same-n same-byte2) (ends-turned (k .along)) (k .ends)
+      (k .on-columns) (k .on-tracks) (subst (λ (y : Problem). Counted y columns tracks) (sym e) counted)
+
+-- a net that is on one of the four sides is there
+pub on-a-side : (ps : Pins) (m : ℕ) {f l f′ l′ : ℕ} {s n w e along ends some : Bool}
+    → Ends (entry (ps .south)) (entry (ps .north)) m f l s n → Ends (entry (ps .west)) (entry (ps .east)) m f′ l′ w e
+    → along ≡ (s || n) → ends ≡ (w || e) → some ≡ (along || ends) → some ≡ isThere (pinsIn ps) m
+on-a-side ps m {s = s} {n = n} a b on-along on-ends either-one =
+    either-one
+    ∙ ap₂ _||_ (on-along ∙ or-comm s n ∙ ap₂ _||_ (a .on-two) (a .on-one)) (on-ends ∙ ap₂ _||_ (b .on-one) (b .on-two))
+    ∙ found (pinsIn ps) m
+
+-- ---- the counts of a board that is handed back as it was
+
+pub same-counts : {b b′ : Board} → b′ ≡ b → Counted (b .problem) (b .columns) (b .tracks) → Counted (b′ .problem) (b′ .columns) (b′ .tracks)
+same-counts e = subst (λ (b : Board). Counted (b .problem) (b .columns) (b .tracks)) (sym e)

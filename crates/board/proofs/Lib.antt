@@ -1,2 +1,3 @@
 pub mod BoardKinds
 pub mod Calls
+pub mod StoredCounts

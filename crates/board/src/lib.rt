@@ -1,29 +1,40 @@
-// A board that is edited: nets come and go, and the board holds their pins.
-// Public calls: the functions of Board. Each takes every board and every number; what is said of a `Sound` board is said of all, since
-// Board's field is private: a start gives a sound board, and adding and dropping keep it so.
+// A board that is edited: nets come and go, and the board holds their pins and how many nets each column and track must pass.
+// Public calls: the functions of Board. Each takes every board and every number; what is said of a board that is `Sound` and whose counts
+// are true (`Counted`) is said of all, since Board's fields are private: a start gives such a board, and adding and dropping keep it so.
+use board_counts::COUNT_ENTRIES;
+use board_counts::ONE_FEWER;
+use board_counts::ONE_MORE;
+use board_counts::count_at;
+use board_counts::greatest;
+use board_counts::recount;
 use board_pins::holds_net;
 use board_pins::place_net;
 use board_pins::without_net;
+use board_sides::end_places;
+use figures::floor_for;
 use grid::Column;
 use grid::Layer;
 use output::Written;
 use problem::Pins;
 use problem::Problem;
-use survey::SurveyAnswer;
+use terms::BOX;
 use terms::BYTE_VALUES;
 use terms::ROW;
 use terms::Refusal;
 use terms::by_kind;
+use terms::either;
 use terms::is_within;
+use terms::larger;
 use terms::largest_byte2;
 use terms::refuse;
+use terms::rounded_up;
 use terms::smaller;
 use terms::smaller_byte;
 use terms::wide;
-use ticket::LONGEST_TICKET;
 ghost use mathlib.Core.Path.{_≡_};
-ghost use mathlib.Core.Bool.{false, _&&_};
+ghost use mathlib.Core.Bool.{false, cond, _&&_};
 ghost use Prim.Native.Nat.{_-_, _≤_};
+ghost use lib.ListN.{replicate};
 ghost use Rattle.terms.specs.Limits.{longestSide, largestNet, within};
 ghost use Rattle.terms.specs.Refusals.{refusal, accepted};
 ghost use Rattle.problem.specs.Problem.{pinsIn, widthOf, netCount};
@@ -31,9 +42,14 @@ ghost use Rattle.output.specs.Writing.{Wrote};
 ghost use Rattle.ticket_bytes.specs.Bytes.{Sized, bytesOf};
 ghost use Rattle.survey.specs.Survey.{surveyOf};
 ghost use Rattle.board_law.specs.Edits.{isBoardKind, startRefusal, fresh, startProblem, isThere, Sound, NetAdded, NetDropped};
+ghost use Rattle.board_law.specs.Counts.{countEntries, columnCount, trackCount, Counted, storedAcross, storedUp};
+ghost use Rattle.board_law.specs.Runs.{boxWidth};
 
+// The counts of columns and of tracks stand beside the problem: entry c - 1 is how many nets column c, or track c of a box, must pass.
 pub struct Board {
     problem: Problem,
+    columns: [u8; COUNT_ENTRIES],
+    tracks: [u8; COUNT_ENTRIES],
 }
 
 // What a call that starts or changes a board answers: a refusal, and the board to go on with.
@@ -68,7 +84,8 @@ fn start_refusal(kind: usize, n: usize, byte2: usize) -> Refusal
 
 // A board without pins.
 fn fresh(kind: u8, n: usize, byte2: u8) -> Board
-    ensures { λ r. ⌜ r .problem ≡ fresh kind n byte2 ⌝ }
+    ensures problem { λ r. ⌜ r .problem ≡ fresh kind n byte2 ⌝ }
+    ensures clear { λ r. ⌜ (r .columns ≡ replicate countEntries 0) × (r .tracks ≡ replicate countEntries 0) ⌝ }
 {
     let empty = [0u8; Board::LONGEST_SIDE];
     Board {
@@ -84,6 +101,8 @@ fn fresh(kind: u8, n: usize, byte2: u8) -> Board
                 east: empty,
             },
         },
+        columns: [0u8; COUNT_ENTRIES],
+        tracks: [0u8; COUNT_ENTRIES],
     }
 }
 
@@ -119,6 +138,14 @@ fn with_pins(q: Problem, nets: u8, pins: Pins) -> Problem
     }
 }
 
+// The width of a box, 0 for the other kinds.
+fn box_width(q: Problem) -> u8
+    requires { ⌜ widthOf q ≤ longestSide ⌝ }
+    ensures { λ r. ⌜ (r ≡ boxWidth q) × (r ≤ longestSide) ⌝ }
+{
+    if q.kind == BOX { q.byte2 } else { 0 }
+}
+
 fn one_fewer(x: u8) -> u8
     ensures { λ r. ⌜ r ≡ x - 1 ⌝ }
 {
@@ -144,6 +171,7 @@ impl Board {
         ensures refusal { λ r. ⌜ r .refusal ≡ startRefusal kind n byte2 ⌝ }
         ensures board { λ r. ⌜ r .board .problem ≡ startProblem kind n byte2 ⌝ }
         ensures sound { λ r. ⌜ Sound (r .board .problem) ⌝ }
+        ensures counted { λ r. ⌜ Counted (r .board .problem) (r .board .columns) (r .board .tracks) ⌝ }
     {
         let refusal = start_refusal(kind, n, byte2);
         if refusal.number != 0 {
@@ -163,6 +191,8 @@ impl Board {
         ensures refused { λ r. ⌜ (accepted (r .refusal) ≡ false → r .board ≡ self) ⌝ }
         ensures added { λ r. ⌜ (Sound (self .problem)
             → NetAdded (self .problem) net (now (places .entry)) (r .refusal) (r .board .problem)) ⌝ }
+        ensures counted { λ r. ⌜ (Sound (self .problem) → Counted (self .problem) (self .columns) (self .tracks)
+            → Counted (r .board .problem) (r .board .columns) (r .board .tracks)) ⌝ }
     {
         let q = limited(self.problem);
         let before = q.pins;
@@ -178,16 +208,25 @@ impl Board {
             return refused(self, 21, size);
         }
         let placed = place_net(q, net as u8, places);
-        let pins = placed.pins;
-        let changed = with_pins(q, q.nets + 1, pins);
         let count = placed.count;
         if count != size {
             return refused(self, 21, count);
         }
-        self.problem = changed;
+        let pins = placed.pins;
+        let problem = with_pins(q, q.nets + 1, pins);
+        let n = grid::column_count(q.n) as u8;
+        let w = box_width(q);
+        let along = end_places(&pins.south, &pins.north, net as u8);
+        let ends = end_places(&pins.west, &pins.east, net as u8);
+        let columns = recount(&self.columns, along, ends, n, ONE_MORE);
+        let tracks = recount(&self.tracks, ends, along, w, ONE_MORE);
         Edited {
             refusal: refuse(0, 0),
-            board: self,
+            board: Board {
+                problem,
+                columns,
+                tracks,
+            },
         }
     }
 
@@ -195,20 +234,32 @@ impl Board {
     pub fn drop(mut self, net: usize) -> Edited
         ensures refused { λ r. ⌜ (accepted (r .refusal) ≡ false → r .board ≡ self) ⌝ }
         ensures dropped { λ r. ⌜ (Sound (self .problem) → NetDropped (self .problem) net (r .refusal) (r .board .problem)) ⌝ }
+        ensures counted { λ r. ⌜ (Sound (self .problem) → Counted (self .problem) (self .columns) (self .tracks)
+            → Counted (r .board .problem) (r .board .columns) (r .board .tracks)) ⌝ }
     {
-        let q = self.problem;
+        let q = limited(self.problem);
         let before = q.pins;
         if !is_within(net, Self::LARGEST_NET) {
             return refused(self, 7, 0);
         }
-        if !holds_net(before, net as u8) {
+        let along = end_places(&before.south, &before.north, net as u8);
+        let ends = end_places(&before.west, &before.east, net as u8);
+        if !either(either(along.one, along.two), either(ends.one, ends.two)) {
             return refused(self, 22, net);
         }
         let pins = without_net(before, net as u8);
-        self.problem = with_pins(q, one_fewer(q.nets), pins);
+        let problem = with_pins(q, one_fewer(q.nets), pins);
+        let n = grid::column_count(q.n) as u8;
+        let w = box_width(q);
+        let columns = recount(&self.columns, along, ends, n, ONE_FEWER);
+        let tracks = recount(&self.tracks, ends, along, w, ONE_FEWER);
         Edited {
             refusal: refuse(0, 0),
-            board: self,
+            board: Board {
+                problem,
+                columns,
+                tracks,
+            },
         }
     }
 
@@ -238,34 +289,52 @@ impl Board {
         ticket_writer::write_ticket(limited(self.problem), ticket)
     }
 
-    // What a survey of the board's ticket gives.
-    fn survey(self) -> SurveyAnswer
-        ensures { λ r. ⌜ (Sound (self .problem) → r ≡ surveyOf (bytesOf (self .problem))) ⌝ }
+    // How many nets column c must pass, 0 where the board has no such column.
+    pub fn count_at_column(self, c: usize) -> usize
+        ensures { λ r. ⌜ (Sound (self .problem) → Counted (self .problem) (self .columns) (self .tracks)
+            → r ≡ cond (within c (self .problem .n .0)) (columnCount (self .problem) c) 0) ⌝ }
     {
-        let mut ticket = [0u8; LONGEST_TICKET];
-        let written = ticket_writer::write_ticket(limited(self.problem), &mut ticket);
-        let length = written.length;
-        survey::survey(&ticket[..length])
+        count_at(&self.columns, c)
     }
 
-    pub fn across(self) -> usize
-        ensures { λ r. ⌜ (Sound (self .problem) → r ≡ surveyOf (bytesOf (self .problem)) .across) ⌝ }
+    // How many nets track c of a box must pass, 0 where the board has no such track.
+    pub fn count_at_track(self, c: usize) -> usize
+        ensures { λ r. ⌜ (Sound (self .problem) → Counted (self .problem) (self .columns) (self .tracks)
+            → r ≡ cond (within c (widthOf (self .problem))) (trackCount (self .problem) c) 0) ⌝ }
     {
-        let answer = self.survey();
-        answer.across
+        count_at(&self.tracks, c)
+    }
+
+    // Across, up and floor are read off the counts: no pin is looked at.
+    pub fn across(self) -> usize
+        ensures stored { λ r. ⌜ r ≡ storedAcross (self .columns) ⌝ }
+        ensures surveyed { λ r. ⌜ (Sound (self .problem) → Counted (self .problem) (self .columns) (self .tracks)
+            → r ≡ surveyOf (bytesOf (self .problem)) .across) ⌝ }
+    {
+        wide(greatest(&self.columns))
     }
 
     pub fn up(self) -> usize
-        ensures { λ r. ⌜ (Sound (self .problem) → r ≡ surveyOf (bytesOf (self .problem)) .up) ⌝ }
+        ensures stored { λ r. ⌜ r ≡ storedUp (self .tracks) ⌝ }
+        ensures surveyed { λ r. ⌜ (Sound (self .problem) → Counted (self .problem) (self .columns) (self .tracks)
+            → r ≡ surveyOf (bytesOf (self .problem)) .up) ⌝ }
     {
-        let answer = self.survey();
-        answer.up
+        wide(greatest(&self.tracks))
     }
 
     pub fn floor(self) -> Layer
-        ensures { λ r. ⌜ (Sound (self .problem) → r ≡ surveyOf (bytesOf (self .problem)) .floor) ⌝ }
+        ensures { λ r. ⌜ (Sound (self .problem) → Counted (self .problem) (self .columns) (self .tracks)
+            → r ≡ surveyOf (bytesOf (self .problem)) .floor) ⌝ }
     {
-        let answer = self.survey();
-        answer.floor
+        let kind = self.problem.kind;
+        let n = larger(
+            1,
+            smaller(grid::column_count(self.problem.n), Self::LONGEST_SIDE),
+        );
+        let w = larger(1, smaller(wide(self.problem.byte2), Self::LONGEST_SIDE));
+        let across = smaller(self.across(), Self::LARGEST_NET);
+        let up = smaller(self.up(), Self::LARGEST_NET);
+        let floor = floor_for(rounded_up(across, w), rounded_up(up, n));
+        Layer(by_kind(kind, 0, 0, 0, floor, 0))
     }
 }

@@ -1,5 +1,5 @@
--- A board stays sound as nets come and go: an accepted call shows what each place gains or loses (`Gains`), and that an added net has two
--- places of the board.
+-- A board stays sound as nets come and go, and the net tells the board with it from the board without it: an accepted call shows what each
+-- place gains or loses (`Gains`), and that an added net has two places of the board.
 use Prim.Native.Nat.{ℕ, zero, suc, _+_, _-_, _≤_}
 use mathlib.Core.Path.{_≡_, refl, sym, ap, _∙_, subst, subst₂}
 use mathlib.Core.Logic.{_≢_, by-cases}
@@ -28,6 +28,7 @@ use Rattle.board_law.specs.Edits.{Sound, Becomes}
 use Rattle.board_law.proofs.Places.{side-back, place-back, number-back, is-place}
 use Rattle.board_law.proofs.Accepted.{accepted-add, accepted-drop, first-right, all-free}
 use Rattle.board_law.proofs.Gains.{Gains, stays, fills, Vacant, withPins, with-good, without-good}
+use Rattle.board_law.proofs.Apart.{Apart}
 
 -- what holds at every place of the lists holds at every place of the board
 pub becomes : {q q′ : Problem} {p : Pins} → Sound q → q′ .kind ≡ q .kind → q′ .n ≡ q .n → q′ .byte2 ≡ q .byte2
@@ -142,6 +143,12 @@ module _ {q q′ : Problem} (m : ℕ) (l : List ℕ) (sound : Sound q)
         different = λ same. ne (sym (number-back v) ∙ ap pinNumber same);
       }
 
+  gained : (s : Side) (a : ℕ) → Gains m (p s a) (p′ s a)
+  gained = everywhere (sound .sized) sized (call .0) (λ s a j. at-place s a j .0)
+
+  now-there : 1 ≤ pinCount p′ m
+  now-there = let (v, there, ne) = other 0 in pinned p′ m (sideIn v) (placeIn v) (in-list v there) (held v there)
+
   -- adding an absent net at free places keeps a board sound
   pub add-sound : q′ .kind ≡ q .kind → q′ .n ≡ q .n → q′ .byte2 ≡ q .byte2 → q′ .nets ≡ q .nets + 1 → Sound q′
   add-sound kinds ns bytes nets =
@@ -149,30 +156,47 @@ module _ {q q′ : Problem} (m : ℕ) (l : List ℕ) (sound : Sound q)
         kind = ap isBoardKind kinds ∙ sound .kind;
         good =
             subst Good (same-header q q′ kinds ns bytes nets)
-            (with-good (sound .good) (call .0) (everywhere (sound .sized) sized (call .0) (λ s a j. at-place s a j .0))
-            (λ s a e. at-place s a (pin-in sized s a (λ z. omega (arith, call .0))) .1 e) second
-            (let (v, there, ne) = other 0 in pinned p′ m (sideIn v) (placeIn v) (in-list v there) (held v there)));
+            (with-good (sound .good) (call .0) gained (λ s a e. at-place s a (pin-in sized s a (λ z. omega (arith, call .0))) .1 e) second
+            now-there);
         sized = sized;
       }
 
+  -- the net tells the board before from the board after
+  pub add-apart : q′ .kind ≡ q .kind → q′ .n ≡ q .n → q′ .byte2 ≡ q .byte2 → Good q′ → Apart m q q′
+  add-apart kinds ns bytes good =
+      record { kind = kinds; n = ns; byte2 = bytes; gains = gained; net = call .0; there = now-there; good = good }
+
 -- ---- dropping
 
--- dropping a net that is there keeps a board sound
-pub drop-sound : {q q′ : Problem} (m : ℕ) → Sound q → accepted (dropRefusal (isThere (pinsIn (q .pins)) m) m) ≡ true → Sized q′
-    → ((s : Side) (a : ℕ) → In a longestSide → pinsIn (q′ .pins) s a ≡ withoutNet (pinsIn (q .pins)) m s a)
-    → q′ .kind ≡ q .kind → q′ .n ≡ q .n → q′ .byte2 ≡ q .byte2 → q′ .nets ≡ q .nets - 1 → Sound q′
-drop-sound {q} {q′} m sound ok sized pins kinds ns bytes nets =
-    let (i, there) = accepted-drop (isThere (pinsIn (q .pins)) m) m ok in
-    record {
-      kind = ap isBoardKind kinds ∙ sound .kind;
-      good =
-          subst Good (same-header q q′ kinds ns bytes nets)
-          (without-good (sound .good) i (everywhere sized (sound .sized) i at-place) (leb-true 1 (pinCount (pinsIn (q .pins)) m) there));
-      sized = sized;
-    }
-  where
-    at-place : (s : Side) (a : ℕ) → In a longestSide → Gains m (pinsIn (q′ .pins) s a) (pinsIn (q .pins) s a)
-    at-place s a j =
-        split (eqb (pinsIn (q .pins) s a) m)
-        (λ e. fills (pins s a j ∙ rw e) (eqb-true _ m e))
-        (λ ne. let same = pins s a j ∙ rw ne in stays same (λ e. eqb-false _ m ne (sym same ∙ e)))
+module _ {q q′ : Problem} (m : ℕ) (sound : Sound q) (ok : accepted (dropRefusal (isThere (pinsIn (q .pins)) m) m) ≡ true)
+    (sized : Sized q′)
+    (pins : (s : Side) (a : ℕ) → In a longestSide → pinsIn (q′ .pins) s a ≡ withoutNet (pinsIn (q .pins)) m s a) where
+  -- a place that held the net is empty, and another holds what it held
+  lost-at : (s : Side) (a : ℕ) → In a longestSide → Gains m (pinsIn (q′ .pins) s a) (pinsIn (q .pins) s a)
+  lost-at s a j =
+      split (eqb (pinsIn (q .pins) s a) m)
+      (λ e. fills (pins s a j ∙ rw e) (eqb-true _ m e))
+      (λ ne. let same = pins s a j ∙ rw ne in stays same (λ e. eqb-false _ m ne (sym same ∙ e)))
+
+  is-net : In m largestNet
+  is-net = accepted-drop (isThere (pinsIn (q .pins)) m) m ok .0
+
+  lost : (s : Side) (a : ℕ) → Gains m (pinsIn (q′ .pins) s a) (pinsIn (q .pins) s a)
+  lost = everywhere sized (sound .sized) is-net lost-at
+
+  was-there : 1 ≤ pinCount (pinsIn (q .pins)) m
+  was-there = leb-true 1 (pinCount (pinsIn (q .pins)) m) (accepted-drop (isThere (pinsIn (q .pins)) m) m ok .1)
+
+  -- dropping a net that is there keeps a board sound
+  pub drop-sound : q′ .kind ≡ q .kind → q′ .n ≡ q .n → q′ .byte2 ≡ q .byte2 → q′ .nets ≡ q .nets - 1 → Sound q′
+  drop-sound kinds ns bytes nets =
+      record {
+        kind = ap isBoardKind kinds ∙ sound .kind;
+        good = subst Good (same-header q q′ kinds ns bytes nets) (without-good (sound .good) is-net lost was-there);
+        sized = sized;
+      }
+
+  -- the net tells the board after from the board before
+  pub drop-apart : q′ .kind ≡ q .kind → q′ .n ≡ q .n → q′ .byte2 ≡ q .byte2 → Apart m q′ q
+  drop-apart kinds ns bytes =
+      record { kind = sym kinds; n = sym ns; byte2 = sym bytes; gains = lost; net = is-net; there = was-there; good = sound .good }

@@ -3,7 +3,7 @@
 use Prim.Native.Nat.{ℕ, _+_, _-_, _≤_}
 use mathlib.Core.Path.{_≡_, refl, sym, ap, _∙_}
 use mathlib.Core.Logic.{_≢_, by-cases}
-use mathlib.Core.Bool.{Bool, true, false, _||_, true≢false}
+use mathlib.Core.Bool.{Bool, true, false, cond, true≢false}
 use native.Mathlib.Decide.{ℕ-discrete}
 use native.Mathlib.Omega.{arith}
 use lib.Dec.{eqb, leb}
@@ -27,40 +27,46 @@ pub data Gains (m without with : ℕ) : Type 0 where
 
 -- ---- the number of nets
 
--- two tests that differ at c alone
-one-more : (t u : ℕ → Bool) (c top : ℕ) → In c top → t c ≡ false → u c ≡ true → ((a : ℕ) → In a top → a ≢ c → t a ≡ u a)
-    → count u top ≡ count t top + 1
-one-more t u c top i fails passes same =
-    let at-c : bit (eqb c c || t c) ≡ 1 = rw (eq-eqb c c refl) in
+-- two tests that differ at c alone, where the one fails
+pub one-more : (t u : ℕ → Bool) (c top : ℕ) → In c top → t c ≡ false → ((a : ℕ) → In a top → a ≢ c → t a ≡ u a)
+    → count u top ≡ count t top + bit (u c)
+one-more t u c top i fails same =
+    let at-c : bit (cond (eqb c c) (u c) (t c)) ≡ bit (u c) = rw (eq-eqb c c refl) in
     omega (
       arith,
       bit-zero fails,
-      sum-change (λ a. bit (t a)) (λ a. bit (eqb a c || t a)) c top i (λ a ne. rw (ne-eqb a c ne)),
-      count-same (λ a. eqb a c || t a) u top each,
+      sum-change (λ a. bit (t a)) (λ a. bit (cond (eqb a c) (u c) (t a))) c top i (λ a ne. rw (ne-eqb a c ne)),
+      count-same (λ a. cond (eqb a c) (u c) (t a)) u top each,
     )
   where
-    each : (a : ℕ) → In a top → (eqb a c || t a) ≡ u a
-    each a j = by-cases (ℕ-discrete a c) (λ e. rw (eq-eqb a c e) (sym (ap u e ∙ passes))) (λ ne. rw (ne-eqb a c ne) (same a j ne))
+    each : (a : ℕ) → In a top → cond (eqb a c) (u c) (t a) ≡ u a
+    each a j = by-cases (ℕ-discrete a c) (λ e. rw (eq-eqb a c e) (ap u (sym e))) (λ ne. rw (ne-eqb a c ne) (same a j ne))
 
 module _ {m : ℕ} {p p′ : Pins} (i : In m largestNet) (gains : (s : Side) (a : ℕ) → Gains m (p s a) (p′ s a)) where
+  pub not-without : (s : Side) (a : ℕ) → p s a ≢ m
+  not-without s a e = elim (gains s a) [ stays same ne ↦ ne e | fills z new ↦ omega arith ]
+
   none-without : pinCount p m ≡ 0
-  none-without = no-pin p m (λ s a e. elim (gains s a) [ stays same ne ↦ ne e | fills z new ↦ omega arith ])
+  none-without = no-pin p m not-without
+
+  pub place-stays : (k : ℕ) → 1 ≤ k → k ≢ m → (s : Side) (a : ℕ) → eqb (p s a) k ≡ eqb (p′ s a) k
+  place-stays k one ne s a = elim (gains s a) [
+    | stays same other ↦ ap (λ (v : ℕ). eqb v k) same
+    | fills z new ↦ ne-eqb (p s a) k (omega arith) ∙ sym (ne-eqb (p′ s a) k (omega arith))
+  ]
 
   others-stay : (k : ℕ) → 1 ≤ k → k ≢ m → pinCount p k ≡ pinCount p′ k
   unfolding pinCount
   others-stay k one ne = omega (arith, on north, on south, on west, on east)
     where
       on : (s : Side) → pinCountOn p k s ≡ pinCountOn p′ k s
-      on s = count-same (λ a. eqb (p s a) k) (λ a. eqb (p′ s a) k) longestSide (λ a j. elim (gains s a) [
-        | stays same other ↦ ap (λ (v : ℕ). eqb v k) same
-        | fills z new ↦ ne-eqb (p s a) k (omega arith) ∙ sym (ne-eqb (p′ s a) k (omega arith))
-      ])
+      on s = count-same (λ a. eqb (p s a) k) (λ a. eqb (p′ s a) k) longestSide (λ a j. place-stays k one ne s a)
 
   one-net-more : 1 ≤ pinCount p′ m → netCount p′ ≡ netCount p + 1
   one-net-more some =
       one-more (λ k. leb 1 (pinCount p k)) (λ k. leb 1 (pinCount p′ k)) m largestNet i
-      (lt-leb 1 (pinCount p m) (omega (arith, none-without))) (le-leb 1 (pinCount p′ m) some)
-      (λ k j ne. ap (leb 1) (others-stay k (j .0) ne))
+      (lt-leb 1 (pinCount p m) (omega (arith, none-without))) (λ k j ne. ap (leb 1) (others-stay k (j .0) ne))
+      ∙ ap (λ b. netCount p + bit b) (le-leb 1 (pinCount p′ m) some)
 
 -- ---- good problems
 

@@ -1,8 +1,14 @@
 pub mod Places
 pub mod Accepted
 pub mod Gains
+pub mod Apart
+pub mod Terms
+pub mod Runs
+pub mod Ends
+pub mod Recount
 pub mod Changes
 pub mod Start
+pub mod Stored
 pub mod Agreement
 pub mod OneNet
 pub mod Steps

@@ -1,4 +1,4 @@
--- A board that starts is sound: it has the kind and the shape of an accepted call, or the refused call's row, and no pins.
+-- A board that starts is sound and has no pins: it has the kind and the shape of an accepted call, or the refused call's row.
 use Prim.Native.Nat.{ℕ, suc}
 use mathlib.Core.Path.{_≡_, refl, sym}
 use mathlib.Core.Bool.{Bool, true, false, cond}
@@ -28,7 +28,7 @@ board-kind kind = by-tests (eqb kind row) (eqb kind channel) (eqb kind box) (eqb
     by-tests false false false true e = refl
     by-tests false false false false e = e
 
-pub no-pins : (s : Side) (a : ℕ) → pinsIn emptyPins s a ≡ 0
+no-pins : (s : Side) (a : ℕ) → pinsIn emptyPins s a ≡ 0
 no-pins north = zeros-at (suc longestSide)
 no-pins south = zeros-at (suc longestSide)
 no-pins west = zeros-at (suc longestSide)
@@ -62,3 +62,8 @@ start-sound kind n byte2 =
     split (accepted (startRefusal kind n byte2))
     (λ ok. let (k, i, j) = accepted-start kind n byte2 ok in rw ok (fresh-sound kind n byte2 k i j))
     (λ refused. rw refused (fresh-sound row 1 1 refl (omega arith) (omega arith)))
+
+pub start-bare : (kind n byte2 : ℕ) (s : Side) (a : ℕ) → pinsIn (startProblem kind n byte2 .pins) s a ≡ 0
+unfolding startProblem
+start-bare kind n byte2 s a =
+    split (accepted (startRefusal kind n byte2)) (λ ok. rw ok (no-pins s a)) (λ refused. rw refused (no-pins s a))

@@ -1,6 +1,6 @@
 -- What a list of calls does to a board: "After any list of these calls from a fresh board, the pins are those of the nets added and not
--- since dropped, and across, up and floor are those that a survey of its ticket gives" (document 02, job 7). The law is `history` of
--- proofs/History.antt.
+-- since dropped, and across, up and floor are those that a survey of its ticket gives" (document 02, job 7); "every stored figure equals
+-- the definition" (job 8). The law is `history` of proofs/History.antt.
 --
 --   Call                 a call on a board: adding a net at a list of places, or dropping a net
 --   NetPlaces            the nets that are there: for each its list of places, which is empty where the net is not there
@@ -12,7 +12,10 @@
 --   afterCall q ns c     the nets after a call: a net that is added has the places that the call lists, one that is dropped has none, and
 --                        "A refused call leaves the board as it found it"
 --   netsAfter q ns cs    the nets after a list of calls, the first call first
---   LeadsTo q cs q′      a board that held q holds q′ after the calls cs, each of which kept its contract
+--   BoardState           what a board holds: a problem, and the stored figures of columns and tracks
+--   Fresh kind n byte2 b what a board of this kind and shape may hold when it starts
+--   CountsKept b b′      a call that leads from b to b′ keeps the stored figures true
+--   LeadsTo b cs b′      a board that held b holds b′ after the calls cs, each of which kept its contract
 --   Kept q₀ q ns         what a board that started as q₀ holds, where the nets are ns:
 --     kind, n, byte2       "A board has a kind and a shape", and no call changes them
 --     pins, places         "the pins are those of the nets": the net at a place has it on its list, and no other has; every place on
@@ -23,6 +26,9 @@
 --     several              "Each net has at least two pins"
 --     read                 Read accepts the board's ticket, as the problem that the board holds
 --     surveyed             "across, up and floor are those that a survey of its ticket gives": Survey's answer to the ticket
+--   KeptCounts b         what is stored after a list of calls:
+--     counted              "every stored figure equals the definition as Job 6 left it"
+--     across, up, floor    what is read off the stored figures is Survey's
 use Prim.Native.Nat.{ℕ, _≤_}
 use mathlib.Core.Path.{_≡_}
 use mathlib.Core.Bool.{Bool, true, cond, not, _&&_}
@@ -43,7 +49,8 @@ use Rattle.ticket.specs.Read.{acceptedReading, ticketOf}
 use Rattle.ticket_bytes.specs.Bytes.{bytesOf}
 use Rattle.survey.specs.Survey.{answered, surveyOf}
 use Rattle.board_law.specs.Places.{placeNumber, isPlace, listed}
-use Rattle.board_law.specs.Edits.{isThere, isFree, addRefusal, dropRefusal, NetAdded, NetDropped}
+use Rattle.board_law.specs.Edits.{startProblem, isThere, isFree, addRefusal, dropRefusal, NetAdded, NetDropped}
+use Rattle.board_law.specs.Counts.{Counted, storedAcross, storedUp, storedFloor}
 
 pub data Call : Type 0 where
   adding : ℕ → List ℕ → Call
@@ -75,12 +82,24 @@ unfoldable pub netsAfter : Problem → NetPlaces → List Call → NetPlaces
 netsAfter q ns [] = ns
 netsAfter q ns (c ∷ cs) = netsAfter q (afterCall q ns c) cs
 
-pub data LeadsTo : Problem → List Call → Problem → Type 0 where
-  done : {q : Problem} → LeadsTo q [] q
-  adds : {q q′ q″ : Problem} {m : ℕ} {l : List ℕ} {r : Refusal} {cs : List Call}
-      → NetAdded q m l r q′ → LeadsTo q′ cs q″ → LeadsTo q (adding m l ∷ cs) q″
-  drops : {q q′ q″ : Problem} {m : ℕ} {r : Refusal} {cs : List Call}
-      → NetDropped q m r q′ → LeadsTo q′ cs q″ → LeadsTo q (dropping m ∷ cs) q″
+pub record BoardState : Type 0 where
+  pub problem : Problem
+  pub columns : List ℕ
+  pub tracks : List ℕ
+
+pub record Fresh (kind n byte2 : ℕ) (b : BoardState) : Type 0 where
+  pub problem : b .problem ≡ startProblem kind n byte2
+  pub counted : Counted (b .problem) (b .columns) (b .tracks)
+
+abbrev pub CountsKept : BoardState → BoardState → Type 0
+CountsKept b b′ = Counted (b .problem) (b .columns) (b .tracks) → Counted (b′ .problem) (b′ .columns) (b′ .tracks)
+
+pub data LeadsTo : BoardState → List Call → BoardState → Type 0 where
+  done : {b : BoardState} → LeadsTo b [] b
+  adds : {b b′ b″ : BoardState} {m : ℕ} {l : List ℕ} {r : Refusal} {cs : List Call}
+      → NetAdded (b .problem) m l r (b′ .problem) → CountsKept b b′ → LeadsTo b′ cs b″ → LeadsTo b (adding m l ∷ cs) b″
+  drops : {b b′ b″ : BoardState} {m : ℕ} {r : Refusal} {cs : List Call}
+      → NetDropped (b .problem) m r (b′ .problem) → CountsKept b b′ → LeadsTo b′ cs b″ → LeadsTo b (dropping m ∷ cs) b″
 
 pub record Kept (q₀ q : Problem) (ns : NetPlaces) : Type 0 where
   pub kind : q .kind ≡ q₀ .kind
@@ -96,3 +115,9 @@ pub record Kept (q₀ q : Problem) (ns : NetPlaces) : Type 0 where
   pub several : (m : ℕ) → In m largestNet → isIn ns m ≡ true → 2 ≤ pinCount (pinsIn (q .pins)) m
   pub read : ticketOf (bytesOf q) ≡ acceptedReading q
   pub surveyed : surveyOf (bytesOf q) ≡ answered q (figuresOf q) (filled (pinsIn (q .pins)))
+
+pub record KeptCounts (b : BoardState) : Type 0 where
+  pub counted : Counted (b .problem) (b .columns) (b .tracks)
+  pub across : storedAcross (b .columns) ≡ surveyOf (bytesOf (b .problem)) .across
+  pub up : storedUp (b .tracks) ≡ surveyOf (bytesOf (b .problem)) .up
+  pub floor : storedFloor (b .problem) (b .columns) (b .tracks) ≡ surveyOf (bytesOf (b .problem)) .floor .0

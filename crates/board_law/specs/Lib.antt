@@ -1,3 +1,5 @@
 pub mod Places
 pub mod Edits
+pub mod Counts
+pub mod Runs
 pub mod History

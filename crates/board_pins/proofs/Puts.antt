@@ -1,4 +1,4 @@
--- A net put at one place of one side, as the four lists of pins; and a side whose places are passed one by one, a net's pins left out.
+-- A net put at one place of one side, as the four lists of pins; and the four lists with a net's pins left out.
 use Prim.Native.Nat.{ℕ, _+_, _-_, _<_}
 use mathlib.Core.Path.{_≡_, sym, ap, _∙_}
 use mathlib.Core.Logic.{_≢_}
@@ -69,19 +69,6 @@ module _ (v x : ℕ) where
 
 abbrev left-out : ℕ → ℕ → ℕ
 left-out net x = cond (eqb x net) 0 x
-
-module _ (side left : List ℕ) (net : ℕ) where
-  pub left-more : (i r : ℕ) → i < length left → r ≡ left-out net (getD side i 0)
-      → ((k : ℕ) → k < i → getD left k 0 ≡ left-out net (getD side k 0))
-      → (k : ℕ) → k < i + 1 → getD (set left i r) k 0 ≡ left-out net (getD side k 0)
-  left-more i r h e before k l = elim (ℕ-discrete k i) [
-    | yes q ↦ rw q (getD-set-same left i r 0 h ∙ e)
-    | no ne ↦ getD-set-other left i k r 0 ne ∙ before k (omega (arith, ne))
-  ]
-
-  pub left-all : ((k : ℕ) → k < longestSide → getD left k 0 ≡ left-out net (getD side k 0)) → (a : ℕ) → In a longestSide
-      → entry left a ≡ left-out net (entry side a)
-  left-all all a i = entry-at left a (i .0) ∙ all (a - 1) (omega arith) ∙ ap (left-out net) (sym (entry-at side a (i .0)))
 
 abbrev LeftOut : ℕ → List ℕ → List ℕ → Type 0
 LeftOut net side left = (a : ℕ) → In a longestSide → entry left a ≡ left-out net (entry side a)

@@ -1,4 +1,6 @@
 // The pins of a board, as its calls look at them and change them. (For our own crates.)
+use board_sides::side_holds;
+use board_sides::side_without;
 use problem::Pins;
 use problem::Problem;
 use terms::BYTE_VALUES;
@@ -13,10 +15,10 @@ ghost use mathlib.Core.List.{[]};
 ghost use Prim.Native.Nat.{ℕ, _≤_};
 ghost use lib.Dec.{eqb};
 ghost use lib.ListN.{length};
-ghost use Rattle.counting.specs.Counting.{In, some};
+ghost use Rattle.counting.specs.Counting.{In};
 ghost use Rattle.terms.specs.Limits.{longestSide, largestNet, within};
 ghost use Rattle.terms.specs.Kinds.{Side};
-ghost use Rattle.grid.specs.Legal.{entry};
+ghost use Rattle.grid.specs.Legal.{entry, pinsOf};
 ghost use Rattle.problem.specs.Problem.{pinsIn, widthOf};
 ghost use Rattle.board_law.specs.Places.{placeNumber, placeIn};
 ghost use Rattle.board_law.specs.Edits.{isThere, isFree, firstWrong, withNet, withoutNet};
@@ -28,20 +30,9 @@ pub const WEST_FROM: usize = 2 * BYTE_VALUES;
 
 pub const EAST_FROM: usize = 3 * BYTE_VALUES;
 
-fn side_holds(side: &[u8; LONGEST_SIDE], net: u8) -> bool
-    ensures { λ r. ⌜ r ≡ some (λ a. eqb (entry (now (side .entry)) a) net) longestSide ⌝ }
-{
-    let mut found = false;
-    let mut i: usize = 0;
-    while i < LONGEST_SIDE {
-        found = either(found, side[i] == net);
-        i += 1;
-    }
-    found
-}
-
 // Whether the net has a pin.
 pub fn holds_net(pins: Pins, net: u8) -> bool
+    requires { ⌜ 1 ≤ net ⌝ }
     ensures { λ r. ⌜ r ≡ isThere (pinsIn pins) net ⌝ }
 {
     let along = either(side_holds(&pins.north, net), side_holds(&pins.south, net));
@@ -60,46 +51,64 @@ fn is_empty(side: &[u8; LONGEST_SIDE], place: usize, places: usize) -> bool
     side[place - 1] == 0
 }
 
-// Whether v is a place of the board, by its kind and shape, that is empty where the pins are these.
-fn is_free(q: Problem, pins: Pins, v: usize) -> bool
+// Whether v is a place of the board, by its kind and shape, that is empty where the sides are these.
+fn is_free<'a>(
+    q: Problem,
+    north: &'a [u8; LONGEST_SIDE],
+    south: &'a [u8; LONGEST_SIDE],
+    west: &'a [u8; LONGEST_SIDE],
+    east: &'a [u8; LONGEST_SIDE],
+    v: usize,
+) -> bool
     requires { ⌜ (q .n .0 ≤ longestSide) × (widthOf q ≤ longestSide) ⌝ }
-    ensures { λ r. ⌜ r ≡ isFree q (pinsIn pins) v ⌝ }
+    ensures { λ r. ⌜ r ≡ isFree q (pinsOf (now (north .entry)) (now (south .entry)) (now (west .entry)) (now (east .entry))) v ⌝ }
 {
     let n = grid::column_count(q.n);
     let w = by_kind(q.kind, 0, 0, 0, wide(q.byte2), 0);
     if v < SOUTH_FROM {
-        return is_empty(&pins.north, v, by_kind(q.kind, 0, n, n, n, n));
+        return is_empty(north, v, by_kind(q.kind, 0, n, n, n, n));
     }
     if v < WEST_FROM {
-        return is_empty(&pins.south, v - SOUTH_FROM, by_kind(q.kind, 0, 0, n, n, n));
+        return is_empty(south, v - SOUTH_FROM, by_kind(q.kind, 0, 0, n, n, n));
     }
     if v < EAST_FROM {
-        return is_empty(&pins.west, v - WEST_FROM, w);
+        return is_empty(west, v - WEST_FROM, w);
     }
-    is_empty(&pins.east, v - EAST_FROM, w)
+    is_empty(east, v - EAST_FROM, w)
 }
 
-// The pins with the net at place v.
-fn with_net(pins: Pins, v: usize, net: u8) -> Pins
+// Puts the net at place v.
+fn put_net(
+    north: &mut [u8; LONGEST_SIDE],
+    south: &mut [u8; LONGEST_SIDE],
+    west: &mut [u8; LONGEST_SIDE],
+    east: &mut [u8; LONGEST_SIDE],
+    v: usize,
+    net: u8,
+)
     requires { ⌜ In (placeIn v) longestSide ⌝ }
-    ensures { λ r. ⌜ ((s : Side) (a : ℕ) → In a longestSide
-        → pinsIn r s a ≡ cond (eqb v (placeNumber s a)) net (pinsIn pins s a)) ⌝ }
+    requires { ⌜ (length (now north) ≡ longestSide) × (length (now south) ≡ longestSide) × (length (now west) ≡ longestSide)
+        × (length (now east) ≡ longestSide) ⌝ }
+    ensures put { λ r. ⌜ ((s : Side) (a : ℕ) → In a longestSide
+        → pinsOf (now (north .exit)) (now (south .exit)) (now (west .exit)) (now (east .exit)) s a
+        ≡ cond (eqb v (placeNumber s a)) net
+        (pinsOf (now (north .entry)) (now (south .entry)) (now (west .entry)) (now (east .entry)) s a)) ⌝ }
+    ensures sizes { λ r. ⌜ (length (now (north .exit)) ≡ longestSide) × (length (now (south .exit)) ≡ longestSide)
+        × (length (now (west .exit)) ≡ longestSide) × (length (now (east .exit)) ≡ longestSide) ⌝ }
 {
-    let mut pins = pins;
     if v < SOUTH_FROM {
-        pins.north[v - 1] = net;
-        return pins;
+        north[v - 1] = net;
+        return;
     }
     if v < WEST_FROM {
-        pins.south[v - SOUTH_FROM - 1] = net;
-        return pins;
+        south[v - SOUTH_FROM - 1] = net;
+        return;
     }
     if v < EAST_FROM {
-        pins.west[v - WEST_FROM - 1] = net;
-        return pins;
+        west[v - WEST_FROM - 1] = net;
+        return;
     }
-    pins.east[v - EAST_FROM - 1] = net;
-    pins
+    east[v - EAST_FROM - 1] = net;
 }
 
 // How many places of a list, from its front, are free and new; where all are, the pins with the net at them.
@@ -116,39 +125,31 @@ pub fn place_net(q: Problem, net: u8, places: &[usize]) -> Placed
         → pinsIn (r .pins) s a ≡ withNet (pinsIn (q .pins)) net (now (places .entry)) s a) ⌝ }
 {
     let before = q.pins;
-    let mut pins = before;
+    let mut north = before.north;
+    let mut south = before.south;
+    let mut west = before.west;
+    let mut east = before.east;
     let mut i: usize = 0;
     while i < places.len() {
         let v = places[i];
-        if !is_free(q, pins, v) {
+        if !is_free(q, &north, &south, &west, &east, v) {
             return Placed {
                 count: i,
                 pins: before,
             };
         }
-        pins = with_net(pins, v, net);
+        put_net(&mut north, &mut south, &mut west, &mut east, v, net);
         i += 1;
     }
-    Placed { count: i, pins }
-}
-
-fn kept(x: u8, net: u8) -> u8
-    ensures { λ r. ⌜ r ≡ cond (eqb x net) 0 x ⌝ }
-{
-    if x == net { 0 } else { x }
-}
-
-fn side_without(side: &[u8; LONGEST_SIDE], net: u8) -> [u8; LONGEST_SIDE]
-    ensures { λ r. ⌜ ((a : ℕ) → In a longestSide
-        → entry r a ≡ cond (eqb (entry (now (side .entry)) a) net) 0 (entry (now (side .entry)) a)) ⌝ }
-{
-    let mut left = [0u8; LONGEST_SIDE];
-    let mut i: usize = 0;
-    while i < LONGEST_SIDE {
-        left[i] = kept(side[i], net);
-        i += 1;
+    Placed {
+        count: i,
+        pins: Pins {
+            north,
+            south,
+            west,
+            east,
+        },
     }
-    left
 }
 
 // The pins but those of the net.

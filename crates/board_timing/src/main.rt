@@ -6,9 +6,9 @@
 //   1   a net is dropped from the full board
 //   2   a net is dropped from the full board, and added again at its places
 //   3   the board's ticket is surveyed, which was written before the rounds
-//   4   across, up and floor of the full board are read
+//   4   a net is dropped from the full board, and across, up and floor of the board that is left are read
 //
-// The net is round mod 180 + 1, with rounds from 0. It prints one line, a number that depends on what the last round made, so that the
+// The nets are 1 and 91 in turn: their spans are the longest, each passes all 90 columns and all 90 tracks. It prints one line, a number that depends on what the last round made, so that the
 // compiler leaves nothing out.
 use board::Board;
 use board::Edited;
@@ -33,7 +33,7 @@ const DROPS_AND_ADDS: u8 = 2;
 
 const SURVEYS: u8 = 3;
 
-const READS: u8 = 4;
+const DROPS_AND_READS: u8 = 4;
 
 fn add_pair(board: Board, net: usize, from: usize, to: usize) -> Edited {
     let places = [from, to];
@@ -77,7 +77,7 @@ fn full() -> Board {
 fn net_of(round: usize) -> usize
     ensures { λ r. ⌜ In r largestNet ⌝ }
 {
-    round % Board::LARGEST_NET + 1
+    1 + Board::LONGEST_SIDE * (round % 2)
 }
 
 // The board of the last round.
@@ -131,42 +131,62 @@ fn surveys(ticket: &[u8], rounds: usize) -> usize {
     last
 }
 
-fn read(board: Board) -> usize {
+// A number that depends on across, up and floor.
+fn figures_of(board: Board) -> usize {
     larger(
         larger(board.across(), board.up()),
         grid::layer_count(board.floor()),
     )
 }
 
-// What the last round read.
-fn reads(board: Board, rounds: usize) -> usize {
-    let mut last = 0;
+// The board of the last round, and what was read.
+struct Read {
+    board: Board,
+    figures: usize,
+}
+
+fn drops_and_reads(board: Board, rounds: usize) -> Read {
+    let mut last = board;
+    let mut figures = 0;
     let mut round: usize = 0;
     while round < rounds {
-        last = read(board);
+        let r = board.drop(net_of(round));
+        let after = r.board;
+        figures = larger(figures, figures_of(after));
+        last = after;
         round += 1;
     }
-    last
-}
-
-// The board after the rounds that change it.
-fn changed(mode: u8, board: Board, rounds: usize) -> Board {
-    match mode {
-        DROPS => drops(board, rounds),
-        DROPS_AND_ADDS => drops_and_adds(board, rounds),
-        _ => board,
+    Read {
+        board: last,
+        figures,
     }
 }
 
-// The last number of the rounds that read the board; a hash of its ticket in the other modes.
-fn number_of(mode: u8, board: Board, rounds: usize) -> usize {
+// What the rounds leave.
+fn done(mode: u8, board: Board, rounds: usize) -> Read {
+    match mode {
+        DROPS => Read {
+            board: drops(board, rounds),
+            figures: 0,
+        },
+        DROPS_AND_ADDS => Read {
+            board: drops_and_adds(board, rounds),
+            figures: 0,
+        },
+        DROPS_AND_READS => drops_and_reads(board, rounds),
+        _ => Read { board, figures: 0 },
+    }
+}
+
+// The last figure of the rounds that survey; in the other modes a hash of the board's ticket, from the figures that were read on.
+fn number_of(mode: u8, r: Read, rounds: usize) -> usize {
     let mut ticket = [0u8; LONGEST_TICKET];
+    let board = r.board;
     board.write_ticket(&mut ticket);
-    match mode {
-        SURVEYS => surveys(&ticket, rounds),
-        READS => reads(board, rounds),
-        _ => records::hash(&ticket, 0),
+    if mode == SURVEYS {
+        return surveys(&ticket, rounds);
     }
+    records::hash(&ticket, r.figures % Board::LARGEST_NET)
 }
 
 fn main() {
@@ -176,6 +196,5 @@ fn main() {
     }
     let mode = input[0];
     let rounds = records::eight(&input, 1);
-    let board = changed(mode, full(), rounds);
-    records::last_field(number_of(mode, board, rounds));
+    records::last_field(number_of(mode, done(mode, full(), rounds), rounds));
 }

@@ -13,15 +13,17 @@
 //
 // A line has numbers in base ten, one space between. For codes 1 to 3: the number and the place of the call's refusal, 0 and 0 if there is
 // none; then of the board after the call: 1 or 0, whether the net that has the record's first number is there; how many nets there are;
-// across; up; floor; the ticket's length; and a hash. For code 4: number, place, length and a hash. The hash is that of a buffer of 512
-// bytes, each 170 before the ticket was written to its front: h is 0 and becomes (31 h + b + 1) mod 1,000,003 at each byte b. With code 4
-// only the first bytes of this buffer, as many as the record says, are lent to the call.
+// across; up; floor; the ticket's length; a hash; and a second one, of the stored figures. For code 4: number, place, length and a hash.
+// The hash is that of a buffer of 512 bytes, each 170 before the ticket was written to its front: h is 0 and becomes (31 h + b + 1) mod
+// 1,000,003 at each byte b. With code 4 only the first bytes of this buffer, as many as the record says, are lent to the call. The second
+// is the same of 196 bytes: the count at columns 0, 1, .. 97 and then the count at tracks 0, 1, .. 97.
 use board::Board;
 use board::Edited;
 use libc::STDIN_FILENO;
 use output::Written;
 use records::field;
 use records::refusal_fields;
+use terms::BYTE_VALUES;
 use terms::ROW;
 use terms::wide;
 ghost use Prim.Native.Nat.{_+_, _≤_};
@@ -45,6 +47,9 @@ const HEAD: usize = 3;
 const MOST_NUMBERS: usize = 512;
 
 const LONGEST_BUFFER: usize = 512;
+
+// The columns whose counts are shown, from 0 on: some more than a board stores.
+const COUNTS: usize = 98;
 
 // The bytes of a number, and of one where bit 7 stands.
 const NARROW_NUMBER: usize = 2;
@@ -171,10 +176,16 @@ fn write(board: Board, size: usize, buffer: &mut [u8]) -> Written
     board.write_ticket(&mut buffer[..size])
 }
 
-// The fields that end every line.
-fn show_ticket(w: Written, buffer: &[u8]) {
-    field(w.length);
-    records::last_field(records::hash(buffer, 0));
+// The counts at columns 0 to 97, and then those at tracks 0 to 97.
+fn counts_of(board: Board) -> [u8; 2 * COUNTS] {
+    let mut counts = [0u8; 2 * COUNTS];
+    let mut c: usize = 0;
+    while c < COUNTS {
+        counts[c] = (board.count_at_column(c) % BYTE_VALUES) as u8;
+        counts[COUNTS + c] = (board.count_at_track(c) % BYTE_VALUES) as u8;
+        c += 1;
+    }
+    counts
 }
 
 // The line of a call that starts or changes a board.
@@ -188,7 +199,9 @@ fn show(r: Edited, net: usize, buffer: &mut [u8]) {
     field(grid::layer_count(board.floor()));
     let size = buffer.len();
     let w = write(board, size, buffer);
-    show_ticket(w, buffer);
+    field(w.length);
+    field(records::hash(buffer, 0));
+    records::last_field(records::hash(&counts_of(board), 0));
 }
 
 // The line of a ticket that is written into `size` bytes.
@@ -197,7 +210,8 @@ fn show_written(board: Board, size: usize, buffer: &mut [u8])
 {
     let w = write(board, size, buffer);
     refusal_fields(w.refusal);
-    show_ticket(w, buffer);
+    field(w.length);
+    records::last_field(records::hash(buffer, 0));
 }
 
 // Makes the call of a record; the next one starts at `at` itself where this one ends the run.

@@ -25,7 +25,7 @@ use Rattle.figures.proofs.Passes.{passes-reach}
 use Rattle.figures.proofs.Alone.{Tells, all-near, all-far, tells}
 
 -- the first and the last column that hold a net
-held-columns : (a b : ℕ → ℕ) (m n : ℕ) → Columns (firstHeld a b n m) (lastHeld a b n m) n
+pub held-columns : (a b : ℕ → ℕ) (m n : ℕ) → Columns (firstHeld a b n m) (lastHeld a b n m) n
 held-columns a b m n = record {
   order = by-cases (ℕ-discrete (firstHeld a b n m) 0)
       (λ z. omega arith)

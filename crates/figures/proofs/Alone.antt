@@ -18,7 +18,7 @@ use Rattle.nets.specs.Tables.{pinCountTo, holdsAt, firstHeld}
 
 -- ---- tests and counts
 
-some-count : (t : ℕ → Bool) (top : ℕ) → some t top ≡ leb 1 (count t top)
+pub some-count : (t : ℕ → Bool) (top : ℕ) → some t top ≡ leb 1 (count t top)
 some-count t top = split (some t top)
     (λ e. let (a, i, h) = some-in t top e in e ∙ sym (le-leb 1 (count t top) (omega (arith, sum-part (λ a. bit (t a)) a top i, bit-one h))))
     (λ e. elim (decLe 1 (count t top)) [

@@ -249,7 +249,8 @@ fn odd(a: usize) -> usize
     2 * a - 1
 }
 
-fn floor_for(a: usize, b: usize) -> usize
+// (For our own crates.)
+pub fn floor_for(a: usize, b: usize) -> usize
     requires { ⌜ (a ≤ largestNet) × (b ≤ largestNet) ⌝ }
     ensures { λ r. ⌜ r ≡ floor a b ⌝ }
 {

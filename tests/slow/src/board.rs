@@ -1,8 +1,9 @@
 //! A board that is edited: nets are added and dropped whole. It is kept as the list of the nets added and not since dropped, each with
-//! the places that it was added at; its ticket is made of these, and its figures are those of a survey of that ticket.
+//! the places that it was added at; its ticket is made of these, and its figures are those of a survey of that ticket. What each column
+//! and each track must pass is summed over the nets, each by its own places.
 
 use crate::tickets::{encode, slots, Places};
-use crate::{rules, survey, written, Refusal, BOX, CHANNEL, LARGEST_NET, LONGEST_SIDE, ROW};
+use crate::{no_side, rules, survey, written, Refusal, BOX, CHANNEL, EAST, LARGEST_NET, LONGEST_SIDE, NORTH, ROW, SOUTH, WEST};
 use std::collections::BTreeMap;
 
 /// The number of a place in a list: 256 for each side, and the place on it from 1.
@@ -13,6 +14,36 @@ pub fn place_number(side: usize, place: usize) -> u64 {
 /// The numbers of all places of a board.
 pub fn place_numbers(kind: u8, n: usize, byte2: usize) -> Vec<u64> {
     slots(kind, n, byte2).into_iter().map(|(side, place)| place_number(side, place)).collect()
+}
+
+/// The side of a place number, and the place on it.
+fn side_and_place(number: u64) -> (usize, usize) {
+    (number as usize / 256, number as usize % 256)
+}
+
+/// The column of a place: west is 0, east n + 1.
+fn column_of(number: u64, n: usize) -> usize {
+    match side_and_place(number) {
+        (NORTH | SOUTH, place) => place,
+        (WEST, _) => 0,
+        (EAST, _) => n + 1,
+        (other, _) => no_side(other),
+    }
+}
+
+/// The track of a place of a box w wide: south is 0, north w + 1.
+fn track_of(number: u64, w: usize) -> usize {
+    match side_and_place(number) {
+        (WEST | EAST, place) => place,
+        (SOUTH, _) => 0,
+        (NORTH, _) => w + 1,
+        (other, _) => no_side(other),
+    }
+}
+
+/// The count at line c, of the counts of lines 1 and on; 0 where there is no such line.
+fn count_at(counts: &[u8], c: usize) -> u8 {
+    c.checked_sub(1).and_then(|i| counts.get(i)).copied().unwrap_or(0)
 }
 
 #[derive(Clone, Debug, PartialEq, Eq)]
@@ -101,7 +132,7 @@ impl Board {
     }
 
     pub fn ticket(&self) -> Vec<u8> {
-        let pins = self.nets.iter().flat_map(|(net, places)| places.iter().map(|v| ((*v as usize / 256, *v as usize % 256), *net)));
+        let pins = self.nets.iter().flat_map(|(net, places)| places.iter().map(|v| (side_and_place(*v), *net)));
         encode(self.kind, self.n, self.byte2, &pins.collect::<Places>())
     }
 
@@ -110,6 +141,44 @@ impl Board {
         let [number, _, _, _, _, _, _, across, up, _, floor] = survey::answer(&self.ticket());
         assert_eq!(number, 0, "a board's ticket is a good one");
         [across, up, floor]
+    }
+
+    /// How many nets each of the lines 1 to `last` must pass; `line` gives a place's. A net counts from the first of its lines to the
+    /// last; not if it has just one, unless that is the side before line 1 or the side past the last, where it counts at the line next
+    /// to it. Rows and channels have no such sides.
+    fn counts(&self, last: usize, line: impl Fn(u64) -> usize) -> Vec<u8> {
+        let mut counts = vec![0; last];
+        for places in self.nets.values() {
+            let lines = || places.iter().map(|place| line(*place));
+            let (from, to) = (lines().min().expect("a net has places"), lines().max().expect("a net has places"));
+            if from < to || from == 0 || to == last + 1 {
+                counts[from.clamp(1, last) - 1..to.clamp(1, last)].iter_mut().for_each(|count| *count += 1);
+            }
+        }
+        counts
+    }
+
+    /// How many nets each of the columns 1 to n must pass.
+    pub fn columns(&self) -> Vec<u8> {
+        self.counts(self.n, |place| column_of(place, self.n))
+    }
+
+    /// How many nets each of the tracks from 1 must pass; none are counted but a box's.
+    pub fn tracks(&self) -> Vec<u8> {
+        if self.kind != BOX {
+            return Vec::new();
+        }
+        self.counts(self.byte2, |place| track_of(place, self.byte2))
+    }
+
+    /// How many nets column c must pass; 0 where the board has no such column.
+    pub fn count_at_column(&self, c: usize) -> u8 {
+        count_at(&self.columns(), c)
+    }
+
+    /// How many nets track c must pass; 0 where the board has no such track, or is no box.
+    pub fn count_at_track(&self, c: usize) -> u8 {
+        count_at(&self.tracks(), c)
     }
 
     /// number, place, length of the call that writes its ticket; the buffer is as the call leaves it.

@@ -12,18 +12,22 @@
 //! one cut short, with fewer numbers than its code takes or with more than 512, or a buffer of more than 512 bytes ends the run.
 //!
 //! A line has, for codes 1 to 3, the refusal's number and place, 0 and 0 if there is none; then of the board after the call: 1 or 0,
-//! whether the net with the record's first number is there; the number of nets; across; up; floor; the ticket's length; and the
-//! hash of a stained buffer of 512 bytes that the ticket was written to. For code 4: number, place and length, and the hash of the
-//! whole stained buffer of 512 bytes, only the first of which were lent.
+//! whether the net with the record's first number is there; the number of nets; across; up; floor; the ticket's length; the hash of a
+//! stained buffer of 512 bytes that the ticket was written to; and the hash of the stored figures, 196 bytes: the count at columns 0,
+//! 1, .. 97 and then the count at tracks 0, 1, .. 97. For code 4: number, place and length, and the hash of the whole stained buffer of
+//! 512 bytes, only the first of which were lent.
 
 use crate::board::{place_number, Board};
 use crate::read::read;
 use crate::records::{hash, row, RECORD_BUFFER, STAIN};
 use crate::tickets::Numbers;
-use crate::{places, rules, BOX, CHANNEL, LARGEST_NET, LONGEST_SIDE, ROW};
+use crate::{places, rules, BOX, CHANNEL, EAST, LARGEST_NET, LONGEST_SIDE, NORTH, ROW, SOUTH, WEST};
 
 /// The most numbers of a record.
 pub const MOST_NUMBERS: usize = 512;
+
+/// How many columns, and how many tracks, a line's hash of the counts has: from 0, which there is none of, to some past the longest side.
+pub const HASHED_COUNTS: usize = 98;
 
 #[derive(Clone, Debug, PartialEq, Eq)]
 pub enum Call {
@@ -109,6 +113,15 @@ fn make(board: &mut Board, call: &Call) -> [u64; 2] {
     outcome.map_or_else(|refusal| [refusal.0 as u64, refusal.1 as u64], |_| [0, 0])
 }
 
+/// The hash of the counts at columns 0, 1, .. 97 and then at tracks 0, 1, .. 97.
+fn hash_of_counts(board: &Board) -> u64 {
+    let mut bytes = [0; 2 * HASHED_COUNTS];
+    for (counts, zero) in [(board.columns(), 0), (board.tracks(), HASHED_COUNTS)] {
+        bytes[zero + 1..][..counts.len()].copy_from_slice(&counts);
+    }
+    hash(0, &bytes)
+}
+
 /// Makes the call; its line.
 pub fn line(board: &mut Board, call: &Call) -> String {
     let mut buffer = [STAIN; RECORD_BUFFER];
@@ -120,7 +133,8 @@ pub fn line(board: &mut Board, call: &Call) -> String {
     let there = board.has(call.numbers()[0]) as u64;
     let [across, up, floor] = board.figures();
     let [_, _, length] = board.write_ticket(&mut buffer);
-    row(&[number, place, there, board.nets().len() as u64, across, up, floor, length, hash(0, &buffer)])
+    let counts = hash_of_counts(board);
+    row(&[number, place, there, board.nets().len() as u64, across, up, floor, length, hash(0, &buffer), counts])
 }
 
 /// The calls of an input's records, up to one that ends the run.
@@ -194,7 +208,18 @@ fn present_net(r: &mut Numbers, board: &Board) -> Option<u64> {
     board.nets().keys().nth(r.below(board.nets().len().max(1))).map(|net| *net as u64)
 }
 
-/// Two or more of these free places, if there are as many: any, some of one side, or some that stand in the same lines.
+/// Where a place stands in the order of the columns, or of the tracks: the side before the first comes first, and the one past the last
+/// comes last.
+fn order_of(place: u64, tracks: bool) -> u64 {
+    match ((place / 256) as usize, tracks) {
+        (NORTH | SOUTH, false) | (WEST | EAST, true) => place % 256,
+        (WEST, false) | (SOUTH, true) => 0,
+        _ => 255,
+    }
+}
+
+/// Two or more of these free places, if there are as many: any, some of one side, some of one column or track and of those next to it, or
+/// two that are farthest apart and any others.
 fn some_of(r: &mut Numbers, mut free: Vec<u64>) -> Vec<u64> {
     match r.below(6) {
         0 if !free.is_empty() => {
@@ -204,15 +229,20 @@ fn some_of(r: &mut Numbers, mut free: Vec<u64>) -> Vec<u64> {
             }
         }
         1 if !free.is_empty() => {
-            free.sort_by_key(|place| place % 256);
-            let by = r.below(free.len());
-            free.rotate_left(by);
+            let (sides, line) = (free[0] / 512, free[0] % 256);
+            free.sort_by_key(|place| (place / 512 != sides, line.abs_diff(place % 256)));
+        }
+        2 if free.len() > 1 => {
+            let tracks = r.below(2) == 0;
+            free.sort_by_key(|place| order_of(*place, tracks));
+            free.rotate_right(1);
+            r.shuffle(&mut free[2..]);
         }
         _ => {}
     }
-    let size = match r.below(12) {
+    let size = match r.below(36) {
         0 => r.below(free.len() + 1).max(2),
-        1..=3 => 2 + r.below(4),
+        1..=9 => 2 + r.below(4),
         _ => 2,
     };
     free.truncate(size);

@@ -1,14 +1,16 @@
-//! Boards that are edited: every refusal worked by hand from the documents; and the list of nets against a second board, an array of
-//! places with counts that are kept, over random histories and over every short list on small boards.
+//! Boards that are edited: every refusal worked by hand from the documents; counts at columns and tracks worked by hand; and the list of
+//! nets against a second board, an array of places with counts that are kept, over random histories and over every short list on small
+//! boards. After every call both boards' counts are held against the definition in the request's own words.
 
 use slow::board::{place_number, place_numbers, Board};
-use slow::edits::{self, line, of_ticket, random_shape, record, run, Call, MOST_NUMBERS};
+use slow::edits::{self, line, of_ticket, random_shape, record, run, Call, HASHED_COUNTS, MOST_NUMBERS};
 use slow::flat::unflatten;
 use slow::read::read;
 use slow::records::{hash, RECORD_BUFFER, STAIN};
 use slow::survey::{figures, floor};
 use slow::tickets::{encode, random, slots, Numbers, DOCUMENT};
 use slow::{hardest, places, Refusal, BOX, CHANNEL, EAST, LARGEST_NET, LONGEST_SIDE, LONGEST_TICKET, NORTH, ROW, SOUTH, TWO_LAYER, WEST};
+use std::collections::BTreeMap;
 
 const MAX: u64 = u64::MAX;
 
@@ -18,17 +20,34 @@ fn started(kind: u8, n: usize, byte2: usize) -> Board {
     board
 }
 
+/// The counts at columns 0, 1, .. and at tracks 0, 1, .., past the longest side.
+fn counts(board: &Board) -> [Vec<u8>; 2] {
+    let lines = || 0..HASHED_COUNTS;
+    [lines().map(|c| board.count_at_column(c)).collect(), lines().map(|c| board.count_at_track(c)).collect()]
+}
+
+/// The board's counts are these at columns and tracks 1 and on, and 0 at every other number.
+fn counts_are(board: &Board, columns: &[u8], tracks: &[u8]) {
+    let with_zeros = |counts: &[u8]| [&[0], counts, &vec![0; HASHED_COUNTS - 1 - counts.len()]].concat();
+    assert_eq!(counts(board), [with_zeros(columns), with_zeros(tracks)]);
+    for c in [HASHED_COUNTS, 255, 256, 257, 1 << 16, (1 << 16) + 1, 1 << 32, (1 << 32) + 1, (1 << 63) + 1, usize::MAX] {
+        assert_eq!((board.count_at_column(c), board.count_at_track(c)), (0, 0), "{c}");
+    }
+    let most = |counts: &[u8]| counts.iter().max().map_or(0, |count| *count as u64);
+    assert_eq!(board.figures()[..2], [most(columns), most(tracks)]);
+}
+
 /// An add that is refused leaves the board as it was.
 fn add_refused(board: &Board, net: u64, places: &[u64], number: u8, place: usize) {
     let mut after = board.clone();
     assert_eq!(after.add(net, places), Err(Refusal(number, place)), "{net} at {places:?}");
-    assert_eq!(after, *board);
+    assert_eq!((counts(&after), &after), (counts(board), board));
 }
 
 fn drop_refused(board: &Board, net: u64, number: u8, place: usize) {
     let mut after = board.clone();
     assert_eq!(after.drop(net), Err(Refusal(number, place)), "{net}");
-    assert_eq!(after, *board);
+    assert_eq!((counts(&after), &after), (counts(board), board));
 }
 
 #[test]
@@ -36,6 +55,7 @@ fn starts() {
     let refused = |kind: u64, n: u64, byte2: u64, number: u8| {
         let (board, outcome) = Board::start(kind, n, byte2);
         assert_eq!(outcome, Err(Refusal(number, 0)), "{kind}, {n}, {byte2}");
+        counts_are(&board, &[0], &[]);
         assert_eq!((board.ticket(), board), (vec![ROW, 1, 1, 0], Board::fresh()));
     };
     for kind in [0, 4, 5, 129, 131, 255, 256 + 1, (1 << 16) + 2, (1 << 32) + 3, MAX] {
@@ -57,6 +77,7 @@ fn starts() {
         assert_eq!((board.shape(), board.nets().len()), ((kind, n, byte2), 0));
         assert_eq!(board.ticket(), [kind, n as u8, byte2 as u8, 0]);
         assert_eq!(board.figures(), [0, 0, (kind == BOX) as u64]);
+        counts_are(&board, &vec![0; n], &if kind == BOX { vec![0; byte2] } else { vec![] });
     }
 }
 
@@ -156,6 +177,7 @@ fn tickets_and_figures_of_the_documents() {
     assert_eq!(board.figures(), [0, 0, 1]);
     assert_eq!(board.add(1, &[514, 513]), Ok(()));
     assert_eq!((board.ticket(), board.figures()), (vec![3, 1, 2, 4, 3, 1, 1], [1, 1, 2]));
+    counts_are(&board, &[1], &[1, 1]);
     let figures_of = |name: &str| {
         let (_, t) = DOCUMENT.iter().find(|(n, _)| *n == name).expect("a ticket of the document");
         let mut board = Board::fresh();
@@ -182,12 +204,111 @@ fn a_channel_and_its_figures_call_by_call() {
     assert_eq!(board.ticket(), [2, 4, 1, 3, 5, 1, 3, 7, 1, 3, 3]);
 }
 
+/// A board of this shape with these nets, numbered from 1.
+fn with_nets(kind: u8, n: usize, byte2: usize, nets: &[&[u64]]) -> Board {
+    let mut board = started(kind, n, byte2);
+    for (net, places) in (1..).zip(nets) {
+        assert_eq!(board.add(net, places), Ok(()), "{places:?}");
+    }
+    board
+}
+
+/// Place numbers: north from 1, south from 257, west from 513, east from 769.
+#[test]
+fn counts_of_one_column_and_of_one_track() {
+    // Both west pins: tracks 1 and 2 lie between them, and column 1 is beside them.
+    counts_are(&with_nets(BOX, 1, 2, &[&[513, 514]]), &[1], &[1, 1]);
+    counts_are(&with_nets(BOX, 1, 2, &[&[513, 514], &[770, 769]]), &[2], &[2, 2]);
+    // Column 1 is the last one too: it is beside west nets and beside east ones, and passes those from west to east.
+    counts_are(&with_nets(BOX, 1, 3, &[&[513, 515], &[769, 770, 771]]), &[2], &[2, 2, 2]);
+    counts_are(&with_nets(BOX, 1, 3, &[&[514, 770]]), &[1], &[0, 0, 0]);
+    counts_are(&with_nets(BOX, 1, 3, &[&[514, 771]]), &[1], &[0, 1, 1]);
+    // North 1 and south 1: all at column 1, and every track lies between them.
+    counts_are(&with_nets(BOX, 1, 3, &[&[1, 257]]), &[0], &[1, 1, 1]);
+    counts_are(&with_nets(BOX, 1, 3, &[&[1, 514]]), &[1], &[0, 1, 1]);
+    counts_are(&with_nets(BOX, 1, 3, &[&[257, 770]]), &[1], &[1, 1, 0]);
+    // One track.
+    counts_are(&with_nets(BOX, 3, 1, &[&[1, 3]]), &[1, 1, 1], &[1]);
+    counts_are(&with_nets(BOX, 3, 1, &[&[1, 3], &[258, 259]]), &[1, 2, 2], &[2]);
+    counts_are(&with_nets(BOX, 3, 1, &[&[2, 258]]), &[0, 0, 0], &[1]);
+    counts_are(&with_nets(BOX, 3, 1, &[&[513, 769]]), &[1, 1, 1], &[0]);
+    counts_are(&with_nets(BOX, 3, 1, &[&[2, 513], &[258, 769]]), &[1, 2, 1], &[2]);
+    // One place on each side: no net is all on one.
+    counts_are(&with_nets(BOX, 1, 1, &[&[1, 257]]), &[0], &[1]);
+    counts_are(&with_nets(BOX, 1, 1, &[&[513, 769]]), &[1], &[0]);
+    counts_are(&with_nets(BOX, 1, 1, &[&[1, 257], &[513, 769]]), &[1], &[1]);
+    counts_are(&with_nets(BOX, 1, 1, &[&[1, 513], &[257, 769]]), &[2], &[2]);
+    counts_are(&with_nets(BOX, 1, 1, &[&[1, 257, 513, 769]]), &[1], &[1]);
+}
+
+#[test]
+fn counts_of_nets_on_one_side() {
+    let (north, south, west, east) = (&[1, 3][..], &[259, 257][..], &[513, 514][..], &[770, 769][..]);
+    counts_are(&with_nets(BOX, 3, 2, &[north]), &[1, 1, 1], &[0, 1]);
+    counts_are(&with_nets(BOX, 3, 2, &[south]), &[1, 1, 1], &[1, 0]);
+    counts_are(&with_nets(BOX, 3, 2, &[west]), &[1, 0, 0], &[1, 1]);
+    counts_are(&with_nets(BOX, 3, 2, &[east]), &[0, 0, 1], &[1, 1]);
+    let mut board = with_nets(BOX, 3, 2, &[north, south, west, east]);
+    counts_are(&board, &[3, 2, 3], &[3, 3]);
+    // Each leaves, and comes again.
+    for (net, places, columns, tracks) in
+        [(1, north, [2, 1, 2], [3, 2]), (2, south, [2, 1, 2], [2, 3]), (3, west, [2, 2, 3], [2, 2]), (4, east, [3, 2, 2], [2, 2])]
+    {
+        assert_eq!(board.drop(net), Ok(()));
+        counts_are(&board, &columns, &tracks);
+        assert_eq!(board.add(net, places), Ok(()));
+        counts_are(&board, &[3, 2, 3], &[3, 3]);
+    }
+    // Two pins of a side that do not reach its ends; one on another side, and it is no side's net.
+    counts_are(&with_nets(BOX, 3, 2, &[&[2, 3]]), &[0, 1, 1], &[0, 1]);
+    counts_are(&with_nets(BOX, 3, 2, &[&[2, 3, 513]]), &[1, 1, 1], &[1, 1]);
+    counts_are(&with_nets(BOX, 3, 2, &[&[513, 514, 3]]), &[1, 1, 1], &[1, 1]);
+    counts_are(&with_nets(BOX, 3, 2, &[&[513, 514, 769]]), &[1, 1, 1], &[1, 1]);
+}
+
+/// Rows and channels have no sides beside their columns, and no counts of tracks, whatever byte 2 is.
+#[test]
+fn counts_of_rows_and_channels() {
+    counts_are(&with_nets(CHANNEL, 3, 8, &[&[2, 258]]), &[0, 0, 0], &[]);
+    counts_are(&with_nets(CHANNEL, 3, 2, &[&[257, 1], &[2, 258], &[3, 259]]), &[0, 0, 0], &[]);
+    counts_are(&with_nets(CHANNEL, 1, 8, &[&[1, 257]]), &[0], &[]);
+    counts_are(&with_nets(CHANNEL, 3, 3, &[&[2, 258, 3], &[1, 257]]), &[0, 1, 1], &[]);
+    counts_are(&with_nets(CHANNEL, 4, 1, &[&[1, 258], &[2, 260], &[3, 259]]), &[1, 2, 1, 1], &[]);
+    counts_are(&with_nets(ROW, 6, 8, &[&[1, 3], &[2, 5], &[4, 6]]), &[1, 2, 2, 2, 2, 1], &[]);
+    counts_are(&with_nets(ROW, 2, 2, &[&[2, 1]]), &[1, 1], &[]);
+    let all: Vec<u64> = (1..=90).collect();
+    counts_are(&with_nets(ROW, 90, 8, &[&all]), &[1; 90], &[]);
+    counts_are(&with_nets(ROW, 90, 1, &[&[1, 90], &[2, 89]]), &[&[1][..], &[2; 88], &[1]].concat(), &[]);
+}
+
+#[test]
+fn counts_of_the_longest_spans() {
+    let mut board = with_nets(BOX, 90, 90, &[&[513, 768 + 90]]);
+    counts_are(&board, &[1; 90], &[1; 90]);
+    assert_eq!(board.add(2, &[90, 257]), Ok(()));
+    counts_are(&board, &[2; 90], &[2; 90]);
+    assert_eq!(board.drop(1), Ok(()));
+    counts_are(&board, &[1; 90], &[1; 90]);
+    let (board, _) = Board::start(3, 90, 90);
+    counts_are(&board, &[0; 90], &[0; 90]);
+    counts_are(&with_nets(BOX, 90, 1, &[&[513, 769]]), &[1; 90], &[0]);
+    counts_are(&with_nets(BOX, 1, 90, &[&[1, 257]]), &[0], &[1; 90]);
+    // Net m at north m and south 91 - m, net 90 + j at west j and east 91 - j: column c passes the 90 from west to east, and 2 c or
+    // 2 (91 - c) of the others.
+    let ends: Vec<[u64; 2]> = (1..=90).map(|m| [m, 256 + 91 - m]).chain((1..=90).map(|j| [512 + j, 768 + 91 - j])).collect();
+    let nets: Vec<&[u64]> = ends.iter().map(|net| &net[..]).collect();
+    let lines: Vec<u8> = (1..=90).map(|c: u8| 90 + 2 * c.min(91 - c)).collect();
+    counts_are(&with_nets(BOX, 90, 90, &nets), &lines, &lines);
+    assert_eq!((lines[0], lines[44], lines[45], lines[89]), (92, 180, 180, 92));
+}
+
 #[test]
 fn full_boards() {
     let side = LONGEST_SIDE;
     let mut board = Board::fresh();
     of_ticket(&hardest::ticket(side, side)).iter().for_each(|call| drop(line(&mut board, call)));
     assert_eq!((board.nets().len(), board.ticket().len(), board.figures()), (180, LONGEST_TICKET, [180, 180, 4]));
+    assert_eq!((board.count_at_column(45), board.count_at_track(45)), (180, 180));
     for net in 1..=LARGEST_NET {
         add_refused(&board, net as u64, &[1, 2], 20, net as usize);
     }
@@ -199,6 +320,7 @@ fn full_boards() {
         add_refused(&board, 1, &[place, 0], 21, 0);
     }
     assert_eq!((board.ticket().len(), board.figures()), (LONGEST_TICKET, [1, 1, 2]));
+    counts_are(&board, &[1; 90], &[1; 90]);
     assert_eq!((board.drop(180), board), (Ok(()), started(BOX, side, side)));
 }
 
@@ -337,6 +459,53 @@ impl Kept {
         unflatten(&flat).expect("a good flat ticket")
     }
 
+    /// The counts at columns 0, 1, .. and at tracks 0, 1, .. as they were kept.
+    fn counts(&self) -> [Vec<u8>; 2] {
+        [&self.columns, &self.tracks].map(|lines| {
+            let kept = |c: usize| if (1..=lines.len()).contains(&c) { lines[c - 1] } else { 0 };
+            (0..HASHED_COUNTS).map(|c| kept(c).try_into().expect("at most 180")).collect()
+        })
+    }
+
+    /// The sides and places of each net's pins.
+    fn pins(&self) -> Vec<Vec<(usize, usize)>> {
+        let mut nets: BTreeMap<u8, Vec<(usize, usize)>> = BTreeMap::new();
+        for (place, net) in self.at.iter().enumerate().filter(|(_, net)| **net != 0) {
+            nets.entry(*net).or_default().push((place / 256, place % 256));
+        }
+        nets.into_values().collect()
+    }
+
+    /// The same counts by the definition. Column c passes a net with a pin at column c or less and a pin at column c or more, not all its
+    /// pins at column c; in a box column 1 also passes each net all west, and column n each net all east. Tracks likewise, in boxes only.
+    fn counts_by_definition(&self) -> [Vec<u8>; 2] {
+        let (n, w, is_box, nets) = (self.n, self.byte2, self.kind == BOX, self.pins());
+        let column = |(side, place): (usize, usize)| [place, place, 0, n + 1][side];
+        let track = |(side, place): (usize, usize)| [w + 1, 0, place, place][side];
+        let passes_column = |c: usize, net: &[(usize, usize)]| {
+            let one_at_or_before = net.iter().any(|pin| column(*pin) <= c);
+            let one_at_or_after = net.iter().any(|pin| column(*pin) >= c);
+            let all_there = net.iter().all(|pin| column(*pin) == c);
+            let all_west = net.iter().all(|(side, _)| *side == WEST);
+            let all_east = net.iter().all(|(side, _)| *side == EAST);
+            one_at_or_before && one_at_or_after && !all_there || is_box && (c == 1 && all_west || c == n && all_east)
+        };
+        let passes_track = |c: usize, net: &[(usize, usize)]| {
+            let one_at_or_below = net.iter().any(|pin| track(*pin) <= c);
+            let one_at_or_above = net.iter().any(|pin| track(*pin) >= c);
+            let all_there = net.iter().all(|pin| track(*pin) == c);
+            let all_south = net.iter().all(|(side, _)| *side == SOUTH);
+            let all_north = net.iter().all(|(side, _)| *side == NORTH);
+            one_at_or_below && one_at_or_above && !all_there || c == 1 && all_south || c == w && all_north
+        };
+        let is_column = |c: usize| 1 <= c && c <= n;
+        let is_track = |c: usize| is_box && 1 <= c && c <= w;
+        let lines = || 0..HASHED_COUNTS;
+        let columns = lines().map(|c| nets.iter().filter(|net| is_column(c) && passes_column(c, net)).count() as u8).collect();
+        let tracks = lines().map(|c| nets.iter().filter(|net| is_track(c) && passes_track(c, net)).count() as u8).collect();
+        [columns, tracks]
+    }
+
     fn figures(&self) -> [u64; 3] {
         let [across, up] = [&self.columns, &self.tracks].map(|lines| *lines.iter().max().expect("a line") as usize);
         let floor = if self.kind == BOX { floor(self.n, self.byte2, across, up) } else { 0 };
@@ -348,15 +517,27 @@ fn numbers(line: &str) -> Vec<u64> {
     line.split(' ').map(|word| word.trim_end().parse().expect("a number")).collect()
 }
 
-/// Both boards after a call: the line is what the second board says, and of a refused edit the board is as it was.
+/// Both boards' counts are those of the definition, and their largest are the figures; a start has cleared them.
+fn same_counts(board: &Board, kept: &Kept, call: &Call) {
+    let defined = kept.counts_by_definition();
+    assert_eq!((&counts(board), &kept.counts()), (&defined, &defined), "{call:?}");
+    let most = [0, 1].map(|i| *defined[i].iter().max().expect("a count") as u64);
+    assert_eq!(board.figures()[..2], most, "{call:?}");
+    if matches!(call, Call::Start(..)) {
+        assert_eq!(counts(board), [[0; HASHED_COUNTS]; 2], "{call:?}");
+    }
+}
+
+/// Both boards after a call: the line is what the second board says, and of a refused edit the board and its counts are as they were.
 fn same_after(board: &mut Board, kept: &mut Kept, call: &Call) -> [u64; 2] {
-    let before = board.clone();
+    let before = (board.clone(), counts(board));
     let printed = numbers(&line(board, call));
     let outcome = kept.make(call);
     assert_eq!(printed[..2], outcome, "{call:?}");
     if outcome != [0, 0] && !matches!(call, Call::Start(..)) || matches!(call, Call::Write(_)) {
-        assert_eq!(*board, before, "{call:?}");
+        assert_eq!((board.clone(), counts(board)), before, "{call:?}");
     }
+    same_counts(board, kept, call);
     let ticket = kept.ticket();
     assert_eq!(board.ticket(), ticket, "{call:?}");
     let t = read(&ticket).expect("a board's ticket is a good one");
@@ -368,11 +549,13 @@ fn same_after(board: &mut Board, kept: &mut Kept, call: &Call) -> [u64; 2] {
     if !matches!(call, Call::Write(size) if *size < ticket.len()) {
         buffer[..ticket.len()].copy_from_slice(&ticket);
     }
-    assert_eq!(printed.last(), Some(&hash(0, &buffer)), "{call:?}");
+    let written = [if outcome[0] == 19 { 0 } else { ticket.len() as u64 }, hash(0, &buffer)];
     match call {
-        Call::Write(_) => assert_eq!((printed.len(), printed[2]), (4, if outcome[0] == 0 { ticket.len() as u64 } else { 0 })),
+        Call::Write(_) => assert_eq!(printed[2..], written, "{call:?}"),
         Call::Start(first, ..) | Call::Add(first, _) | Call::Drop(first) => {
-            assert_eq!(printed[2..8], [&[kept.has(*first) as u64, f.nets as u64], &kept.figures()[..], &[ticket.len() as u64]].concat());
+            let hashed = hash(0, &kept.counts_by_definition().concat());
+            let right = [&[kept.has(*first) as u64, f.nets as u64], &kept.figures()[..], &written, &[hashed]].concat();
+            assert_eq!(printed[2..], right, "{call:?}");
         }
     }
     outcome
@@ -421,6 +604,41 @@ fn long_histories_of_small_boards() {
             same_after(&mut board, &mut kept, &call);
         }
     }
+}
+
+/// One board throughout: each start, some of them refused, takes the pins and the counts of the board before it away. Of the longest box
+/// the nets added are of every sort.
+#[test]
+fn histories_of_the_shortest_and_the_longest_boards() {
+    let r = &mut Numbers::new(103);
+    let side = LONGEST_SIDE;
+    let rows = [(ROW, 1, 1), (ROW, 2, 8), (ROW, side, 1), (ROW, side, 8)];
+    let channels = [(CHANNEL, 1, 8), (CHANNEL, 2, 1), (CHANNEL, side, 1), (CHANNEL, side, 8)];
+    let boxes = [(BOX, 1, 1), (BOX, 1, 2), (BOX, 2, 1), (BOX, 1, side), (BOX, side, 1), (BOX, 2, side), (BOX, side, 2), (BOX, side, side)];
+    let refused = [Call::Start(4, 90, 90), Call::Start(3, 91, 90), Call::Start(3, 90, 91), Call::Start(2, 90, 9)];
+    let (mut board, (mut kept, _)) = (Board::fresh(), Kept::start(1, 1, 1));
+    let (mut all_columns, mut all_tracks, mut no_column, mut no_track, mut of_side) = (0, 0, 0, 0, [0; 4]);
+    for shape in [&rows[..], &channels, &boxes].concat() {
+        for filled in [false, true] {
+            for call in edits::history(r, shape, filled, 150, 6) {
+                let outcome = same_after(&mut board, &mut kept, &call);
+                let Call::Add(_, list) = call else { continue };
+                if outcome != [0, 0] || shape != (BOX, side, side) {
+                    continue;
+                }
+                let alone = with_nets(BOX, side, side, &[&list]);
+                let (columns, tracks) = (alone.columns(), alone.tracks());
+                all_columns += columns.iter().all(|count| *count == 1) as usize;
+                all_tracks += tracks.iter().all(|count| *count == 1) as usize;
+                no_column += columns.iter().all(|count| *count == 0) as usize;
+                no_track += tracks.iter().all(|count| *count == 0) as usize;
+                (0..4).for_each(|side| of_side[side] += list.iter().all(|place| *place as usize / 256 == side) as usize);
+            }
+            same_after(&mut board, &mut kept, &refused[r.below(refused.len())]);
+        }
+    }
+    let least = [all_columns, all_tracks, no_column, no_track].into_iter().chain(of_side).min();
+    assert!(least > Some(2), "{all_columns} {all_tracks} {no_column} {no_track} {of_side:?}");
 }
 
 /// Every list of three places or fewer out of all those near the sides, on an empty board and on one with a net.
@@ -490,8 +708,19 @@ fn records_by_hand() {
     let input = [Call::Start(3, 1, 2), Call::Add(9, vec![513, 514]), Call::Write(6), Call::Drop(65536)].map(|call| call.record()).concat();
     let stained = |front: &[u8]| hash(0, &[front, &vec![STAIN; RECORD_BUFFER - front.len()]].concat());
     let (empty, full, none) = (stained(&[3, 1, 2, 0]), stained(&[3, 1, 2, 4, 3, 9, 9]), stained(&[]));
-    let right = format!("0 0 0 0 0 0 1 4 {empty}\n0 0 1 1 1 1 2 7 {full}\n19 7 0 {none}\n7 0 0 1 1 1 2 7 {full}\n");
-    assert_eq!(run(&input), right);
+    // Column 1 and tracks 1 and 2 count the net; the bytes of the tracks begin at 98.
+    let mut counts = [0; 196];
+    let fresh = hash(0, &counts);
+    [1, 99, 100].iter().for_each(|i| counts[*i] = 1);
+    let with_net = hash(0, &counts);
+    assert_eq!((fresh, with_net), (281_399, 633_937), "worked out apart from this code");
+    let lines = [
+        format!("0 0 0 0 0 0 1 4 {empty} {fresh}\n"),
+        format!("0 0 1 1 1 1 2 7 {full} {with_net}\n"),
+        format!("19 7 0 {none}\n"),
+        format!("7 0 0 1 1 1 2 7 {full} {with_net}\n"),
+    ];
+    assert_eq!(run(&input), lines.concat());
 }
 
 #[test]

@@ -678,7 +678,7 @@ fn board_moves() -> Vec<Call> {
 }
 
 /// Full boards, and nets that are all on one side or in one column; each is written into buffers around its ticket's length, and
-/// loses a few nets.
+/// loses a few nets, of which those with few pins come again.
 fn full_boards(r: &mut Numbers) -> Vec<Call> {
     let side = LONGEST_SIDE;
     let one_net = |kind: u8, n: usize, byte2: usize| -> Vec<u8> {
@@ -699,12 +699,16 @@ fn full_boards(r: &mut Numbers) -> Vec<Call> {
     let mut out = Vec::new();
     for t in tickets {
         let length = t.len();
-        out.extend(edits::of_ticket(&t));
+        let calls = edits::of_ticket(&t);
+        out.extend(calls.clone());
         out.extend([0, length - 1, length, length + 1, RECORD_BUFFER].map(Call::Write));
         let mut nets = read::read(&t).expect("a good ticket").nets();
         out.push(Call::Add(1 + r.below(LARGEST_NET as usize) as u64, vec![1, 2]));
         r.shuffle(&mut nets);
-        out.extend(nets.iter().take(3).map(|net| Call::Drop(*net as u64)));
+        nets.truncate(3);
+        out.extend(nets.iter().map(|net| Call::Drop(*net as u64)));
+        let comes_again = |call: &Call| matches!(call, Call::Add(net, list) if list.len() <= 4 && nets.contains(&(*net as u8)));
+        out.extend(calls.into_iter().filter(comes_again));
     }
     // Lists that are longer than a board has places.
     let all = place_numbers(BOX, side, side);
@@ -714,13 +718,48 @@ fn full_boards(r: &mut Numbers) -> Vec<Call> {
     out
 }
 
-/// Histories of so many calls on boards of every kind with the shortest and the longest sides; large boards are filled first.
+/// The first and the last place of a side.
+fn ends(side: usize, n: usize, byte2: usize) -> Vec<u64> {
+    vec![place_number(side, 1), place_number(side, places(side, n, byte2))]
+}
+
+/// Nets of the longest span, of one column and of one track, and of one side, on boards of the shortest and the longest sides. Each is
+/// alone on the board first; then all are there that find room, and they leave and come again in turn.
+fn board_spans() -> Vec<Call> {
+    let (side, most) = (LONGEST_SIDE, MOST_TRUNK_LAYERS);
+    let rows = [(ROW, 2, 1), (ROW, side, most)];
+    let channels = [(CHANNEL, 1, 1), (CHANNEL, 2, most), (CHANNEL, side, 1)];
+    let boxes = [(BOX, 1, 1), (BOX, 1, 2), (BOX, 2, 1), (BOX, 2, 2), (BOX, 1, side), (BOX, side, 1), (BOX, side, side)];
+    let mut out = Vec::new();
+    for (kind, n, byte2) in [&rows[..], &channels, &boxes].concat() {
+        let at = |side: usize, place: usize| place_number(side, place);
+        let (c, t) = (n.div_ceil(2), byte2.div_ceil(2));
+        let mut lists = vec![vec![at(WEST, 1), at(EAST, byte2)], vec![at(SOUTH, n), at(NORTH, 1)], vec![at(NORTH, c), at(SOUTH, c)]];
+        lists.extend([vec![at(WEST, t), at(EAST, t)], vec![at(WEST, byte2), at(NORTH, n)], vec![at(EAST, 1), at(SOUTH, 1)]]);
+        lists.extend((NORTH..=EAST).map(|side| ends(side, n, byte2)));
+        let all = place_numbers(kind, n, byte2);
+        lists.retain(|list| list[0] != list[1] && list.iter().all(|place| all.contains(place)));
+        out.push(Call::Start(kind as u64, n as u64, byte2 as u64));
+        for list in &lists {
+            out.extend([Call::Add(2, list.clone()), Call::Drop(2)]);
+        }
+        let nets: Vec<(u64, Vec<u64>)> = (LARGEST_NET as u64 - lists.len() as u64 + 1..).zip(lists).collect();
+        out.extend(nets.iter().map(|(net, list)| Call::Add(*net, list.clone())));
+        for (net, list) in nets {
+            out.extend([Call::Drop(net), Call::Add(net, list)]);
+        }
+    }
+    out
+}
+
+/// Histories of so many calls on boards of every kind with the shortest and the longest sides; large boards are filled first, and the
+/// longest begin empty too, so that nets of the longest span find room.
 fn board_histories(r: &mut Numbers) -> Vec<Call> {
     let (side, most) = (LONGEST_SIDE, MOST_TRUNK_LAYERS);
-    let rows = [(1, 1, 12), (2, most, 80), (7, 1, 220), (16, 3, 220), (side, 1, 260), (side, most, 60)];
-    let channels = [(1, 1, 80), (2, 2, 160), (8, 1, 220), (side, 1, 200), (side, most, 60)];
-    let boxes = [(1, 1, 200), (1, 2, 160), (2, 1, 160), (2, 2, 220), (3, 5, 260), (9, 8, 220), (40, 12, 160)];
-    let long_boxes = [(1, side, 220), (side, 1, 220), (2, side, 100), (side, side, 260)];
+    let rows = [(1, 1, 12), (2, most, 60), (7, 1, 150), (16, 3, 120), (side, 1, 240)];
+    let channels = [(1, 1, 80), (2, 2, 120), (8, 1, 130), (side, 1, 200)];
+    let boxes = [(1, 1, 200), (1, 2, 140), (2, 1, 140), (2, 2, 160), (3, 5, 180), (9, 8, 140), (40, 12, 100)];
+    let long_boxes = [(1, side, 200), (side, 1, 200), (2, side, 60), (side, side, 280)];
     let shapes = [(ROW, &rows[..]), (CHANNEL, &channels), (BOX, &boxes), (BOX, &long_boxes)];
     let mut out = Vec::new();
     for (kind, list) in shapes {
@@ -729,17 +768,20 @@ fn board_histories(r: &mut Numbers) -> Vec<Call> {
             out.extend(edits::history(r, (kind, *n, *byte2), filled, *calls, 5));
         }
     }
+    for (kind, n, byte2) in [(ROW, side, most), (CHANNEL, side, most), (BOX, 1, side), (BOX, side, 1), (BOX, side, side)] {
+        out.extend(edits::history(r, (kind, n, byte2), false, 120, 10));
+    }
     out
 }
 
 /// The calls of board_vectors. A record is a code of one byte, 1 start (kind, n, byte 2), 2 add (net, places), 3 drop (net) or 4
 /// the ticket into a buffer of so many bytes; how many numbers follow, two bytes; and these, two bytes each, or eight where bit 7 of
 /// the code stands; all low byte first. A line has number, place, whether the net is there, nets, across, up, floor, the ticket's
-/// length and the hash of the stained buffer that it was written to; for code 4 number, place, length and the buffer's hash. `edits`
-/// has what else there is to say, what ends a run too.
+/// length, the hash of the stained buffer that it was written to and that of the counts at columns and tracks; for code 4 number, place,
+/// length and the buffer's hash. `edits` has what else there is to say, what ends a run too.
 fn board_calls() -> Vec<Call> {
     let r = &mut Numbers::new(73);
-    [board_starts(), board_refusals(), board_moves(), full_boards(r), board_histories(r)].concat()
+    [board_starts(), board_refusals(), board_moves(), board_spans(), full_boards(r), board_histories(r)].concat()
 }
 
 /// The records of the calls; then some with numbers of eight bytes though they need two, some with more numbers than they take, and

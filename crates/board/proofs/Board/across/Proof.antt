@@ -1,12 +1,14 @@
--- `board::Board::across` meets its contract.
-use mathlib.Core.Path.{ap}
+-- `board::Board::across` meets its contract: the largest stored figure, which is Survey's.
+use mathlib.Core.Path.{_≡_, _∙_}
 use borrow.Author.Needs.{needs}
-use Rattle.survey.specs.declared.SurveyAnswer.{SurveyAnswer}
+use Rattle.board_law.specs.Counts.{storedAcross}
+use Rattle.board_law.proofs.Stored.{stored-across}
 use Rattle.board.proofs.Board.across.Statement.{statement}
 use Rattle.board.proofs.Board.across.Tie as tie
 
 returns : tie.Need-returns
-returns c = λ sound. ap (λ (a : SurveyAnswer). a .across) (c .survey .ensures sound)
+unfolding storedAcross
+returns c = let is = c .wide .ensures ∙ c .before .greatest .ensures in (is, λ sound counted. is ∙ stored-across sound counted)
 
 pub across-spec : {M : Type 1} → statement M
-across-spec = tie.close (tie.spec (λ c κs. search needs) returns)
+across-spec = tie.close (tie.spec (λ c κs. search needs) (λ c κs. search needs) returns)

@@ -15,10 +15,15 @@ cast-holds-net c =
     let c3 = c .before .before .before in
     omega (arith, within-in (c3 .before .args .net) largestNet (passed (c3 .is-within .ensures) (c .before .before .if1 .left)))
 
+holds-net-requires : tie.Need-holds-net-requires
+holds-net-requires c κs =
+    let c3 = c .before .before .before in
+    within-in (c3 .before .args .net) largestNet (passed (c3 .is-within .ensures) (c .before .before .if1 .left)) .0
+
 returns-2 : tie.Need-returns-2
 returns-2 c =
     let c4 = c .before .before .before .before in
     rw (passed (c4 .is-within .ensures) (c .before .before .before .if1 .left)) (c .holds-net .ensures)
 
 pub has-net-spec : {M : Type 1} → statement M
-has-net-spec = tie.close (tie.spec (λ c κs. search needs) returns cast-holds-net (λ c κs. search needs) returns-2)
+has-net-spec = tie.close (tie.spec (λ c κs. search needs) returns cast-holds-net holds-net-requires returns-2)

@@ -5,6 +5,7 @@ use borrow.Author.Needs.{needs}
 use Rattle.board_law.specs.Edits.{Sound}
 use Rattle.board_law.proofs.Start.{start-sound}
 use Rattle.board.proofs.BoardKinds.{start-refused, start-accepted, start-in}
+use Rattle.board.proofs.StoredCounts.{fresh-counted}
 use Rattle.board.proofs.Board.start.Statement.{statement}
 use Rattle.board.proofs.Board.start.Tie as tie
 
@@ -12,8 +13,16 @@ returns : tie.Need-returns
 returns c =
     let c3 = c .before .before .before in
     let a = c3 .before .args in
-    let is = c .fresh .ensures ∙ sym (start-refused (a .kind) (a .n) (a .byte2) (c3 .start-refusal .ensures) (c .before .if1 .taken)) in
-    (c3 .start-refusal .ensures, (is, subst Sound (sym is) (start-sound (a .kind) (a .n) (a .byte2))))
+    let is = c .fresh .ensures .0 ∙ sym (start-refused (a .kind) (a .n) (a .byte2) (c3 .start-refusal .ensures) (c .before .if1 .taken)) in (
+      c3 .start-refusal .ensures,
+      (
+        is,
+        (
+          subst Sound (sym is) (start-sound (a .kind) (a .n) (a .byte2)),
+          fresh-counted (a .kind) (a .n) (a .byte2) is (c .fresh .ensures .1),
+        ),
+      ),
+    )
 
 cast-fresh : tie.Need-cast-fresh
 cast-fresh c =
@@ -31,8 +40,16 @@ returns-2 : tie.Need-returns-2
 returns-2 c =
     let c3 = c .before .before .before in
     let a = c3 .before .args in
-    let is = c .fresh2 .ensures ∙ sym (start-accepted (a .kind) (a .n) (a .byte2) (c3 .start-refusal .ensures) (c .before .if1 .left)) in
-    (c3 .start-refusal .ensures, (is, subst Sound (sym is) (start-sound (a .kind) (a .n) (a .byte2))))
+    let is = c .fresh2 .ensures .0 ∙ sym (start-accepted (a .kind) (a .n) (a .byte2) (c3 .start-refusal .ensures) (c .before .if1 .left)) in (
+      c3 .start-refusal .ensures,
+      (
+        is,
+        (
+          subst Sound (sym is) (start-sound (a .kind) (a .n) (a .byte2)),
+          fresh-counted (a .kind) (a .n) (a .byte2) is (c .fresh2 .ensures .1),
+        ),
+      ),
+    )
 
 pub start-spec : {M : Type 1} → statement M
 start-spec =

@@ -1,12 +1,14 @@
--- `board::Board::up` meets its contract.
-use mathlib.Core.Path.{ap}
+-- `board::Board::up` meets its contract: the largest stored figure, which is Survey's.
+use mathlib.Core.Path.{_≡_, _∙_}
 use borrow.Author.Needs.{needs}
-use Rattle.survey.specs.declared.SurveyAnswer.{SurveyAnswer}
+use Rattle.board_law.specs.Counts.{storedUp}
+use Rattle.board_law.proofs.Stored.{stored-up}
 use Rattle.board.proofs.Board.up.Statement.{statement}
 use Rattle.board.proofs.Board.up.Tie as tie
 
 returns : tie.Need-returns
-returns c = λ sound. ap (λ (a : SurveyAnswer). a .up) (c .survey .ensures sound)
+unfolding storedUp
+returns c = let is = c .wide .ensures ∙ c .before .greatest .ensures in (is, λ sound counted. is ∙ stored-up sound counted)
 
 pub up-spec : {M : Type 1} → statement M
-up-spec = tie.close (tie.spec (λ c κs. search needs) returns)
+up-spec = tie.close (tie.spec (λ c κs. search needs) (λ c κs. search needs) returns)
