@@ -19,7 +19,7 @@ use Rattle.board_law.specs.History.{Call, NetPlaces, noNets, netsAfter, 
 use Rattle.board_law.specs.History.{Kept, KeptCounts}
 use Rattle.board_law.proofs.Places.{listed-none}
 use Rattle.board_law.proofs.Start.{start-bare, start-sound}
-use Rattle.board_law.proofs.Stored.{survey-is, stored-across, stored-up, stored-floor}
+use Rattle.board_law.proofs.Stored.{survey-is, count-small, stored-across, stored-up, stored-floor}
 use Rattle.board_law.proofs.Agreement.{Holds, there-same, adds-agree, drops-agree}
 use Rattle.board_law.proofs.Steps.{net-added, net-dropped}
 
@@ -78,6 +78,7 @@ kept-counts : {b : BoardState} → Sound (b .problem) → Counted (b .problem) (
 kept-counts sound counted =
     record {
       counted = counted;
+      small = count-small sound counted;
       across = stored-across sound counted;
       up = stored-up sound counted;
       floor = stored-floor sound counted;

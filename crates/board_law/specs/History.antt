@@ -28,6 +28,7 @@
 --     surveyed             "across, up and floor are those that a survey of its ticket gives": Survey's answer to the ticket
 --   KeptCounts b         what is stored after a list of calls:
 --     counted              "every stored figure equals the definition as Job 6 left it"
+--     small                no stored figure is above the largest net's number, so that a byte holds each
 --     across, up, floor    what is read off the stored figures is Survey's
 use Prim.Native.Nat.{ℕ, _≤_}
 use mathlib.Core.Path.{_≡_}
@@ -41,7 +42,7 @@ use Rattle.terms.specs.Kinds.{Side}
 use Rattle.terms.specs.Refusals.{accepted}
 use Rattle.terms.specs.declared.Refusal.{Refusal}
 use Rattle.grid.specs.Grid.{places}
-use Rattle.grid.specs.Legal.{nets}
+use Rattle.grid.specs.Legal.{entry, nets}
 use Rattle.problem.specs.declared.Problem.{Problem}
 use Rattle.problem.specs.Problem.{pinsIn, pinCount, filled, shapeOf}
 use Rattle.figures.specs.Figures.{figuresOf}
@@ -50,7 +51,7 @@ use Rattle.ticket_bytes.specs.Bytes.{bytesOf}
 use Rattle.survey.specs.Survey.{answered, surveyOf}
 use Rattle.board_law.specs.Places.{placeNumber, isPlace, listed}
 use Rattle.board_law.specs.Edits.{startProblem, isThere, isFree, addRefusal, dropRefusal, NetAdded, NetDropped}
-use Rattle.board_law.specs.Counts.{Counted, storedAcross, storedUp, storedFloor}
+use Rattle.board_law.specs.Counts.{countEntries, Counted, storedAcross, storedUp, storedFloor}
 
 pub data Call : Type 0 where
   adding : ℕ → List ℕ → Call
@@ -118,6 +119,7 @@ pub record Kept (q₀ q : Problem) (ns : NetPlaces) : Type 0 where
 
 pub record KeptCounts (b : BoardState) : Type 0 where
   pub counted : Counted (b .problem) (b .columns) (b .tracks)
+  pub small : (c : ℕ) → In c countEntries → (entry (b .columns) c ≤ largestNet) × (entry (b .tracks) c ≤ largestNet)
   pub across : storedAcross (b .columns) ≡ surveyOf (bytesOf (b .problem)) .across
   pub up : storedUp (b .tracks) ≡ surveyOf (bytesOf (b .problem)) .up
   pub floor : storedFloor (b .problem) (b .columns) (b .tracks) ≡ surveyOf (bytesOf (b .problem)) .floor .0
