@@ -37,6 +37,7 @@ ghost use Prim.Native.Nat.{_-_, _≤_};
 ghost use lib.ListN.{replicate};
 ghost use Rattle.terms.specs.Limits.{longestSide, largestNet, within};
 ghost use Rattle.terms.specs.Refusals.{refusal, accepted};
+ghost use Rattle.grid.specs.Legal.{entry};
 ghost use Rattle.problem.specs.Problem.{pinsIn, widthOf, netCount};
 ghost use Rattle.output.specs.Writing.{Wrote};
 ghost use Rattle.ticket_bytes.specs.Bytes.{Sized, bytesOf};
@@ -186,7 +187,8 @@ impl Board {
         }
     }
 
-    // Adds a net at these places, or says 7, 20 or 21.
+    // Adds a net at these places, or says 7, 20 or 21. (The board handed back is a new one, which the compiler copies less than self changed
+    // in place.)
     pub fn add(mut self, net: usize, places: &[usize]) -> Edited
         ensures refused { λ r. ⌜ (accepted (r .refusal) ≡ false → r .board ≡ self) ⌝ }
         ensures added { λ r. ⌜ (Sound (self .problem)
@@ -291,7 +293,8 @@ impl Board {
 
     // How many nets column c must pass, 0 where the board has no such column.
     pub fn count_at_column(self, c: usize) -> usize
-        ensures { λ r. ⌜ (Sound (self .problem) → Counted (self .problem) (self .columns) (self .tracks)
+        ensures stored { λ r. ⌜ r ≡ cond (within c countEntries) (entry (self .columns) c) 0 ⌝ }
+        ensures counted { λ r. ⌜ (Sound (self .problem) → Counted (self .problem) (self .columns) (self .tracks)
             → r ≡ cond (within c (self .problem .n .0)) (columnCount (self .problem) c) 0) ⌝ }
     {
         count_at(&self.columns, c)
@@ -299,7 +302,8 @@ impl Board {
 
     // How many nets track c of a box must pass, 0 where the board has no such track.
     pub fn count_at_track(self, c: usize) -> usize
-        ensures { λ r. ⌜ (Sound (self .problem) → Counted (self .problem) (self .columns) (self .tracks)
+        ensures stored { λ r. ⌜ r ≡ cond (within c countEntries) (entry (self .tracks) c) 0 ⌝ }
+        ensures counted { λ r. ⌜ (Sound (self .problem) → Counted (self .problem) (self .columns) (self .tracks)
             → r ≡ cond (within c (widthOf (self .problem))) (trackCount (self .problem) c) 0) ⌝ }
     {
         count_at(&self.tracks, c)

@@ -43,22 +43,22 @@ fn shift(list: &[u8; COUNT_ENTRIES], from: u8, size: u8, step: u8) -> [u8; COUNT
 }
 
 // The counts of places 1 to `places` along the grid, with step more, modulo 256, at each that must pass a net that has pins: `along` is
-// where it stands on the sides along the grid, and `across` says whether it has pins on the near side and whether on the far one.
+// where it stands on the sides along the grid, and `ends` says whether it has pins on the near side and whether on the far one.
 pub fn recount(
     list: &[u8; COUNT_ENTRIES],
     along: EndPlaces,
-    across: EndPlaces,
+    ends: EndPlaces,
     places: u8,
     step: u8,
 ) -> [u8; COUNT_ENTRIES]
     requires { ⌜ places ≤ longestSide ⌝ }
-    ensures { λ r. ⌜ Recounted (lowAlong (along .first) (across .one) (places + 1)) (highAlong (along .last) (across .two) (places + 1))
+    ensures { λ r. ⌜ Recounted (lowAlong (along .first) (ends .one) (places + 1)) (highAlong (along .last) (ends .two) (places + 1))
         places step (now (list .entry)) r ⌝ }
 {
     let past = places + 1;
     let inner = choose(along.first == NO_PLACE, past, along.first);
-    let low = choose(across.one, 0, inner);
-    let high = choose(across.two, past, along.last);
+    let low = choose(ends.one, 0, inner);
+    let high = choose(ends.two, past, along.last);
     let between = both(1 <= low, low <= places);
     let from = smaller_byte(larger_byte(low, 1), places);
     let to = larger_byte(from, smaller_byte(larger_byte(high, 1), places));

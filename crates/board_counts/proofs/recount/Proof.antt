@@ -45,7 +45,7 @@ returns c =
     ∙ ap (λ (x : ℕ). min x (c13 .args .places)) (c .before .before .before .before .before .larger-byte2 .ensures)) in
     let size = size-of (c10 .choose2 .result) (c6 .before .before .before .choose3 .result) (c13 .args .places) from to
     (c .before .before .both2 .ensures) (c .before .choose4 .ensures) (c6 .before .before .both .ensures) in
-    let low = c10 .choose2 .ensures ∙ ap (cond (c13 .args .across .one) 0) (c10 .before .choose .ensures) in
+    let low = c10 .choose2 .ensures ∙ ap (cond (c13 .args .ends .one) 0) (c10 .before .choose .ensures) in
     recounts (c13 .pre) low (c6 .before .before .before .choose3 .ensures) from size (c .shift .ensures)
 
 pub recount-spec : {M : Type 1} → statement M

@@ -6,7 +6,8 @@ use Rattle.board.proofs.Board.count_at_column.Statement.{statement}
 use Rattle.board.proofs.Board.count_at_column.Tie as tie
 
 returns : tie.Need-returns
-returns c = λ sound counted. c .count-at .ensures ∙ column-at sound counted (c .before .before .before .args .c)
+returns c =
+    (c .count-at .ensures, λ sound counted. c .count-at .ensures ∙ column-at sound counted (c .before .before .before .args .c))
 
 pub count-at-column-spec : {M : Type 1} → statement M
 count-at-column-spec = tie.close (tie.spec (λ c κs. search needs) returns)
