@@ -77,7 +77,8 @@ pub record Recounts (y : Problem) (m step : ℕ) (a e : EndPlaces) (columns trac
   pub ends : Ends (entry (y .pins .west)) (entry (y .pins .east)) m (e .first) (e .last) (e .one) (e .two)
   pub on-columns : Recounted (lowAlong (a .first) (e .one) (y .n .0 + 1)) (highAlong (a .last) (e .two) (y .n .0 + 1)) (y .n .0) step
       columns columns′
-  pub on-tracks : Recounted (lowAlong (e .first) (a .one) (boxWidth y + 1)) (highAlong (e .last) (a .two) (boxWidth y + 1)) (boxWidth y) step
+  pub on-tracks : Recounted (lowAlong (e .first) (a .one) (boxWidth y + 1)) (highAlong (e .last) (a .two) (boxWidth y + 1)) (boxWidth y)
+      step
       tracks tracks′
 
 -- of a grid of k places, which are as many as l
@@ -122,7 +123,8 @@ module _ (q x q′ : Problem) (ps : Pins) (m : ℕ) (l : List ℕ) (r : Refusal)
   })
 
   pub added-counts : {a b : EndPlaces} {columns tracks columns′ tracks′ : List ℕ}
-      → Recounts (record { kind = x .kind; n = x .n; byte2 = x .byte2; nets = x .nets + 1; pins = ps }) m 1 a b columns tracks columns′ tracks′
+      → Recounts (record { kind = x .kind; n = x .n; byte2 = x .byte2; nets = x .nets + 1; pins = ps }) m 1 a b columns tracks columns′
+      tracks′
       → Counted q columns tracks → Counted q′ columns′ tracks′
   added-counts {a} {b} {columns} {tracks} {columns′} {tracks′} given counted =
       let k = subst (λ (y : Problem). Recounts y m 1 a b columns tracks columns′ tracks′) (sym is) given in

@@ -8,8 +8,8 @@
 //   3   the board's ticket is surveyed, which was written before the rounds
 //   4   a net is dropped from the full board, and across, up and floor of the board that is left are read
 //
-// The nets are 1 and 91 in turn: their spans are the longest, each passes all 90 columns and all 90 tracks. It prints one line, a number that depends on what the last round made, so that the
-// compiler leaves nothing out.
+// The nets are 1 and 91 in turn: their spans are the longest, all 90 columns and all 90 tracks must pass each. It prints one line, a
+// number that depends on what the last round made, so that the compiler leaves nothing out.
 use board::Board;
 use board::Edited;
 use board_pins::EAST_FROM;

@@ -29,7 +29,8 @@ shift-requires c κs =
     ∙ ap (λ (x : ℕ). min x (c12 .args .places)) (c .before .before .before .before .larger-byte2 .ensures)) in
     let low = c9 .choose2 .result in
     let high = c5 .before .before .before .choose3 .result in
-    let size = size-of low high (c12 .args .places) from to (c .before .both2 .ensures) (c .choose4 .ensures) (c5 .before .before .both .ensures) in (
+    let size = size-of low high (c12 .args .places) from to (c .before .both2 .ensures) (c .choose4 .ensures)
+    (c5 .before .before .both .ensures) in (
       subst (λ (x : ℕ). x ≤ longestSide) (sym from) (run-from low high (c12 .args .places) (c12 .pre)),
       subst (λ (x : ℕ). x ≤ longestSide + 1) (sym size) (run-size low high (c12 .args .places) (c12 .pre)),
     )
@@ -51,5 +52,6 @@ returns c =
 pub recount-spec : {M : Type 1} → statement M
 recount-spec =
     tie.close (tie.spec (λ c. search needs) (λ c κs. search needs) (λ c κs. search needs) (λ c κs. search needs) (λ c κs. search needs)
-    (λ c κs. search needs) (λ c κs. search needs) (λ c κs. search needs) (λ c κs. search needs) (λ c κs. search needs) (λ c κs. search needs)
+    (λ c κs. search needs) (λ c κs. search needs) (λ c κs. search needs) (λ c κs. search needs) (λ c κs. search needs) (λ c κs. search
+    needs)
     (λ c. search needs) (λ c. search needs) (λ c κs. search needs) shift-requires returns)

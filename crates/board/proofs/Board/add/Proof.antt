@@ -96,8 +96,10 @@ returns-4 c =
     let x = w .before .before in
     let a = x .before .before .before .args in
     let same = ap (λ (b : Board). b .problem) (c .refused4 .ensures .1) in
-    let refused = wrong-place _ _ (a .net) (now (a .places)) (passed (w .is-within .ensures) (c .before .before .before .before .before .before .if1 .left))
-    (sym (c .before .before .before .before .before .holds-net .ensures) ∙ c .before .before .before .before .if2 .left) (c .before .before .before .if3 .left) _
+    let refused = wrong-place _ _ (a .net) (now (a .places)) (passed (w .is-within .ensures)
+    (c .before .before .before .before .before .before .if1 .left))
+    (sym (c .before .before .before .before .before .holds-net .ensures) ∙ c .before .before .before .before .if2 .left)
+    (c .before .before .before .if3 .left) _
     (c .before .before .place-net .ensures .0) (c .before .if4 .taken) in (
       λ z. c .refused4 .ensures .1,
       (
@@ -125,33 +127,45 @@ box-width-requires c κs =
 
 cast-end-places : tie.Need-cast-end-places
 cast-end-places c =
-    let w = c .before .before .before .before .before .before .before .before .before .before .before .before .before .before in
+    let c10 = c .before .before .before .before .before .before .before .before .before .before in
+    let i = c10 .before .before .before in
+    let w = i .before in
     let a = w .before .before .before .before .before .args in
-    omega (arith, within-in (a .net) largestNet (passed (w .is-within .ensures) (c .before .before .before .before .before .before .before .before .before .before .before .before .before .if1 .left)))
+    omega (arith, within-in (a .net) largestNet (passed (w .is-within .ensures) (i .if1 .left)))
 
 end-places-requires : tie.Need-end-places-requires
 end-places-requires c κs =
-    let w = c .before .before .before .before .before .before .before .before .before .before .before .before .before .before in
+    let c10 = c .before .before .before .before .before .before .before .before .before .before in
+    let i = c10 .before .before .before in
+    let w = i .before in
     let a = w .before .before .before .before .before .args in
-    within-in (a .net) largestNet (passed (w .is-within .ensures) (c .before .before .before .before .before .before .before .before .before .before .before .before .before .if1 .left)) .0
+    within-in (a .net) largestNet (passed (w .is-within .ensures) (i .if1 .left)) .0
 
 cast-end-places-2 : tie.Need-cast-end-places-2
 cast-end-places-2 c =
-    let w = c .before .before .before .before .before .before .before .before .before .before .before .before .before .before .before .before .before .before in
+    let c10 = c .before .before .before .before .before .before .before .before .before .before in
+    let i = c10 .before .before .before .before .before .before .before in
+    let w = i .before in
     let a = w .before .before .before .before .before .args in
-    omega (arith, within-in (a .net) largestNet (passed (w .is-within .ensures) (c .before .before .before .before .before .before .before .before .before .before .before .before .before .before .before .before .before .if1 .left)))
+    omega (arith, within-in (a .net) largestNet (passed (w .is-within .ensures) (i .if1 .left)))
 
 end-places-requires-2 : tie.Need-end-places-requires-2
 end-places-requires-2 c κs =
-    let w = c .before .before .before .before .before .before .before .before .before .before .before .before .before .before .before .before .before .before in
+    let c10 = c .before .before .before .before .before .before .before .before .before .before in
+    let i = c10 .before .before .before .before .before .before .before in
+    let w = i .before in
     let a = w .before .before .before .before .before .args in
-    within-in (a .net) largestNet (passed (w .is-within .ensures) (c .before .before .before .before .before .before .before .before .before .before .before .before .before .before .before .before .before .if1 .left)) .0
+    within-in (a .net) largestNet (passed (w .is-within .ensures) (i .if1 .left)) .0
 
 recount-requires : tie.Need-recount-requires
-recount-requires c κs = omega (arith, c .before .before .before .before .before .before .before .before .before .before .before .column-count .ensures, c .before .before .before .before .before .before .before .before .before .before .before .before .before .before .before .before .before .before .before .before .before .before .before .limited .ensures .0 .0)
+recount-requires c κs =
+    let n = c .before .before .before .before .before .before .before .before .before .before .before in
+    let c10 = n .before .before .before .before .before .before .before .before .before .before in
+    omega (arith, n .column-count .ensures, c10 .before .before .limited .ensures .0 .0)
 
 recount-requires-2 : tie.Need-recount-requires-2
-recount-requires-2 c κs = c .before .before .before .before .before .before .before .before .before .before .before .before .before .box-width .ensures .1
+recount-requires-2 c κs =
+    c .before .before .before .before .before .before .before .before .before .before .before .before .before .box-width .ensures .1
 
 returns-5 : tie.Need-returns-5
 returns-5 c =
@@ -177,8 +191,10 @@ returns-5 c =
     (c4 .recount .result) (c .before .recount2 .result) = record {
       along = c11 .end-places .ensures;
       ends = c7 .end-places2 .ensures;
-      on-columns = recounted-along _ (q .n .0) 1 along ends _ _ (c11 .before .before .before .before .before .column-count .ensures) (c4 .recount .ensures);
-      on-tracks = recounted-along _ (boxWidth q) 1 ends along _ _ (c11 .before .before .before .before .box-width .ensures .0) (c .before .recount2 .ensures);
+      on-columns = recounted-along _ (q .n .0) 1 along ends _ _ (c11 .before .before .before .before .before .column-count .ensures)
+          (c4 .recount .ensures);
+      on-tracks = recounted-along _ (boxWidth q) 1 ends along _ _ (c11 .before .before .before .before .box-width .ensures .0)
+          (c .before .recount2 .ensures);
     } in (
       λ z. absurd (true≢false (sym (ap accepted (c .refuse .ensures)) ∙ z)),
       (
@@ -192,4 +208,7 @@ returns-5 c =
     )
 
 pub add-spec : {M : Type 1} → statement M
-add-spec = tie.close (tie.spec (λ c κs. search needs) (λ c κs. search needs) (λ c κs. search needs) returns cast-holds-net holds-net-requires (λ c κs. search needs) returns-2 (λ c κs. search needs) returns-3 cast-place-net place-net-requires (λ c κs. search needs) returns-4 add-with-pins (λ c κs. search needs) (λ c κs. search needs) cast-n box-width-requires cast-end-places end-places-requires cast-end-places-2 end-places-requires-2 recount-requires recount-requires-2 (λ c κs. search needs) returns-5)
+add-spec = tie.close (tie.spec (λ c κs. search needs) (λ c κs. search needs) (λ c κs. search needs) returns cast-holds-net
+    holds-net-requires (λ c κs. search needs) returns-2 (λ c κs. search needs) returns-3 cast-place-net place-net-requires (λ c κs.
+    search needs) returns-4 add-with-pins (λ c κs. search needs) (λ c κs. search needs) cast-n box-width-requires cast-end-places
+    end-places-requires cast-end-places-2 end-places-requires-2 recount-requires recount-requires-2 (λ c κs. search needs) returns-5)

@@ -32,27 +32,31 @@ returns c =
 
 cast-end-places : tie.Need-cast-end-places
 cast-end-places c =
-    let w = c .before .before .before .before in
+    let i = c .before .before .before in
+    let w = i .before in
     let a = w .before .before .before .before .args in
-    omega (arith, within-in (a .net) largestNet (passed (w .is-within .ensures) (c .before .before .before .if1 .left)))
+    omega (arith, within-in (a .net) largestNet (passed (w .is-within .ensures) (i .if1 .left)))
 
 end-places-requires : tie.Need-end-places-requires
 end-places-requires c κs =
-    let w = c .before .before .before .before in
+    let i = c .before .before .before in
+    let w = i .before in
     let a = w .before .before .before .before .args in
-    within-in (a .net) largestNet (passed (w .is-within .ensures) (c .before .before .before .if1 .left)) .0
+    within-in (a .net) largestNet (passed (w .is-within .ensures) (i .if1 .left)) .0
 
 cast-end-places-2 : tie.Need-cast-end-places-2
 cast-end-places-2 c =
-    let w = c .before .before .before .before .before .before .before .before in
+    let i = c .before .before .before .before .before .before .before in
+    let w = i .before in
     let a = w .before .before .before .before .args in
-    omega (arith, within-in (a .net) largestNet (passed (w .is-within .ensures) (c .before .before .before .before .before .before .before .if1 .left)))
+    omega (arith, within-in (a .net) largestNet (passed (w .is-within .ensures) (i .if1 .left)))
 
 end-places-requires-2 : tie.Need-end-places-requires-2
 end-places-requires-2 c κs =
-    let w = c .before .before .before .before .before .before .before .before in
+    let i = c .before .before .before .before .before .before .before in
+    let w = i .before in
     let a = w .before .before .before .before .args in
-    within-in (a .net) largestNet (passed (w .is-within .ensures) (c .before .before .before .before .before .before .before .if1 .left)) .0
+    within-in (a .net) largestNet (passed (w .is-within .ensures) (i .if1 .left)) .0
 
 returns-2 : tie.Need-returns-2
 returns-2 c =
@@ -60,9 +64,14 @@ returns-2 c =
     let x = w .before .before in
     let a = x .before .before .args in
     let same = ap (λ (b : Board). b .problem) (c .refused2 .ensures .1) in
-    let there = on-a-side (x .limited .result .pins) (a .net) (c .before .before .before .before .before .before .before .before .before .end-places .ensures) (c .before .before .before .before .before .end-places2 .ensures) (c .before .before .before .before .either .ensures) (c .before .before .before .either2 .ensures)
+    let there = on-a-side (x .limited .result .pins) (a .net)
+    (c .before .before .before .before .before .before .before .before .before .end-places .ensures)
+    (c .before .before .before .before .before .end-places2 .ensures) (c .before .before .before .before .either .ensures)
+    (c .before .before .before .either2 .ensures)
     (c .before .before .either3 .ensures) in
-    let refused = not-there _ (a .net) (passed (w .is-within .ensures) (c .before .before .before .before .before .before .before .before .before .before .before .before .before .if1 .left)) (failed there (c .before .if2 .taken)) in (
+    let refused = not-there _ (a .net) (passed (w .is-within .ensures)
+    (c .before .before .before .before .before .before .before .before .before .before .before .before .before .if1 .left)) (failed
+    there (c .before .if2 .taken)) in (
       λ z. c .refused2 .ensures .1,
       (
         λ sound.
@@ -74,23 +83,29 @@ returns-2 c =
 
 cast-without-net : tie.Need-cast-without-net
 cast-without-net c =
-    let w = c .before .before .before .before .before .before .before .before .before .before .before .before .before in
+    let c10 = c .before .before .before .before .before .before .before .before .before .before in
+    let i = c10 .before .before in
+    let w = i .before in
     let a = w .before .before .before .before .args in
-    omega (arith, within-in (a .net) largestNet (passed (w .is-within .ensures) (c .before .before .before .before .before .before .before .before .before .before .before .before .if1 .left)))
+    omega (arith, within-in (a .net) largestNet (passed (w .is-within .ensures) (i .if1 .left)))
 
 cast-n : tie.Need-cast-n
 cast-n c =
-    let x = c .before .before .before .before .before .before .before .before .before .before .before .before .before .before .before .before .before .before .before in
+    let c10 = c .before .before .before .before .before .before .before .before .before .before in
+    let x = c10 .before .before .before .before .before .before .before .before .before in
     omega (arith, c .column-count .ensures, x .limited .ensures .0 .0)
 
 box-width-requires : tie.Need-box-width-requires
 box-width-requires c κs =
-    let x = c .before .before .before .before .before .before .before .before .before .before .before .before .before .before .before .before .before .before .before in
+    let c10 = c .before .before .before .before .before .before .before .before .before .before in
+    let x = c10 .before .before .before .before .before .before .before .before .before in
     x .limited .ensures .0 .1
 
 recount-requires : tie.Need-recount-requires
 recount-requires c κs =
-    let x = c .before .before .before .before .before .before .before .before .before .before .before .before .before .before .before .before .before .before .before .before .before .before in
+    let c10 = c .before .before .before .before .before .before .before .before .before .before in
+    let c20 = c10 .before .before .before .before .before .before .before .before .before .before in
+    let x = c20 .before .before in
     omega (arith, c .before .before .before .column-count .ensures, x .limited .ensures .0 .0)
 
 recount-requires-2 : tie.Need-recount-requires-2
@@ -106,9 +121,11 @@ returns-3 c =
     let w = c20 .before .before .before .before .before in
     let x = w .before .before in
     let a = x .before .before .args in
-    let there = on-a-side (x .limited .result .pins) (a .net) (c20 .end-places .ensures) (c16 .end-places2 .ensures) (c13 .before .before .either .ensures) (c13 .before .either2 .ensures)
+    let there = on-a-side (x .limited .result .pins) (a .net) (c20 .end-places .ensures) (c16 .end-places2 .ensures)
+    (c13 .before .before .either .ensures) (c13 .before .either2 .ensures)
     (c13 .either3 .ensures) in
-    let right = is-there _ (a .net) (passed (w .is-within .ensures) (c20 .before .before .before .before .if1 .left)) (passed there (c9 .before .before .before .if2 .left)) in
+    let right = is-there _ (a .net) (passed (w .is-within .ensures) (c20 .before .before .before .before .if1 .left)) (passed there
+    (c9 .before .before .before .if2 .left)) in
     let without = c9 .before .before .without-net .ensures in
     let fewer = c9 .before .one-fewer .ensures in
     let is = c9 .with-pins .ensures .0 in
@@ -120,8 +137,10 @@ returns-3 c =
     record {
       along = c20 .end-places .ensures;
       ends = c16 .end-places2 .ensures;
-      on-columns = recounted-along _ (q .n .0) 255 along ends _ _ (c4 .before .before .before .before .column-count .ensures) (c4 .recount .ensures);
-      on-tracks = recounted-along _ (boxWidth q) 255 ends along _ _ (c4 .before .before .before .box-width .ensures .0) (c .before .recount2 .ensures);
+      on-columns = recounted-along _ (q .n .0) 255 along ends _ _ (c4 .before .before .before .before .column-count .ensures)
+          (c4 .recount .ensures);
+      on-tracks = recounted-along _ (boxWidth q) 255 ends along _ _ (c4 .before .before .before .box-width .ensures .0)
+          (c .before .recount2 .ensures);
     } in (
       λ z. absurd (true≢false (sym (ap accepted (c .refuse .ensures)) ∙ z)),
       (
@@ -135,4 +154,7 @@ returns-3 c =
     )
 
 pub drop-spec : {M : Type 1} → statement M
-drop-spec = tie.close (tie.spec (λ c κs. search needs) (λ c κs. search needs) (λ c κs. search needs) returns cast-end-places end-places-requires cast-end-places-2 end-places-requires-2 (λ c κs. search needs) (λ c κs. search needs) (λ c κs. search needs) (λ c κs. search needs) returns-2 cast-without-net (λ c κs. search needs) (λ c κs. search needs) (λ c κs. search needs) (λ c κs. search needs) cast-n box-width-requires recount-requires recount-requires-2 (λ c κs. search needs) returns-3)
+drop-spec = tie.close (tie.spec (λ c κs. search needs) (λ c κs. search needs) (λ c κs. search needs) returns cast-end-places
+    end-places-requires cast-end-places-2 end-places-requires-2 (λ c κs. search needs) (λ c κs. search needs) (λ c κs. search needs)
+    (λ c κs. search needs) returns-2 cast-without-net (λ c κs. search needs) (λ c κs. search needs) (λ c κs. search needs) (λ c κs.
+    search needs) cast-n box-width-requires recount-requires recount-requires-2 (λ c κs. search needs) returns-3)

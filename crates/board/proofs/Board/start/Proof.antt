@@ -13,7 +13,8 @@ returns : tie.Need-returns
 returns c =
     let c3 = c .before .before .before in
     let a = c3 .before .args in
-    let is = c .fresh .ensures .0 ∙ sym (start-refused (a .kind) (a .n) (a .byte2) (c3 .start-refusal .ensures) (c .before .if1 .taken)) in (
+    let is = c .fresh .ensures .0 ∙ sym (start-refused (a .kind) (a .n) (a .byte2) (c3 .start-refusal .ensures) (c .before .if1 .taken))
+    in (
       c3 .start-refusal .ensures,
       (
         is,
@@ -40,7 +41,8 @@ returns-2 : tie.Need-returns-2
 returns-2 c =
     let c3 = c .before .before .before in
     let a = c3 .before .args in
-    let is = c .fresh2 .ensures .0 ∙ sym (start-accepted (a .kind) (a .n) (a .byte2) (c3 .start-refusal .ensures) (c .before .if1 .left)) in (
+    let is = c .fresh2 .ensures .0 ∙ sym (start-accepted (a .kind) (a .n) (a .byte2) (c3 .start-refusal .ensures)
+    (c .before .if1 .left)) in (
       c3 .start-refusal .ensures,
       (
         is,
