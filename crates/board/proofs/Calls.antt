@@ -1,32 +1,32 @@
 -- What a call on a board answers, test by test, as its contract states it.
 use Prim.Native.Nat.{ℕ, _+_, _-_, _≤_, _<_}
-use mathlib.Core.Path.{_≡_, sym, ap, ap₂, _∙_, subst}
+use mathlib.Core.Path.{_≡_, sym, ap, _∙_, subst}
 use mathlib.Core.Logic.{_≢_}
-use mathlib.Core.Bool.{Bool, true, false, true≢false, _||_, or-comm}
+use mathlib.Core.Bool.{Bool, true, false, true≢false}
 use mathlib.Core.List.{List, []}
-use native.Mathlib.Omega.{arith}
-use lib.Dec.{leb}
-use lib.ListN.{length}
+use lib.ListN.{length, getD}
 use borrow.Author.Tests.{eq-eqb, ne-eqb, le-leb, lt-leb}
 use Rattle.counting.specs.Counting.{In}
-use Rattle.counting.proofs.Sums.{split}
 use Rattle.terms.specs.Limits.{longestSide, largestNet, within}
 use Rattle.terms.specs.Kinds.{Side}
 use Rattle.terms.specs.Refusals.{refusal, accepted}
 use Rattle.terms.specs.declared.Refusal.{Refusal}
-use Rattle.grid.specs.Legal.{entry}
 use Rattle.problem.specs.declared.Pins.{Pins}
 use Rattle.problem.specs.declared.Problem.{Problem}
 use Rattle.problem.specs.Problem.{pinsIn}
 use Rattle.ticket_bytes.specs.Bytes.{Sized}
-use Rattle.board_law.specs.Edits.{isThere, isFree, firstWrong, addRefusal, dropRefusal, withNet, withoutNet, Sound, NetAdded, NetDropped}
+use Rattle.board_law.specs.Edits.{isThere, isFree, firstWrong, addRefusal, firstAbsent, firstRepeat, dropRefusal, withNet, withoutNets}
+use Rattle.board_law.specs.Edits.{Sound, NetAdded, NetsDropped}
 use Rattle.board_law.specs.Counts.{Counted}
-use Rattle.board_law.specs.Runs.{Ends, lowAlong, highAlong, boxWidth, Recounted}
-use Rattle.board_law.proofs.Changes.{becomes, add-sound, add-apart, drop-sound, drop-apart}
-use Rattle.board_law.proofs.Recount.{counts-with, counts-without}
+use Rattle.board_law.specs.Runs.{NetNumbers, without, TakenAway}
+use Rattle.board_law.proofs.Accepted.{first-absent, first-repeat, no-repeat, all-there}
+use Rattle.board_law.proofs.Changes.{becomes, add-sound, add-apart}
+use Rattle.board_law.proofs.Without.{without-is}
+use Rattle.board_law.proofs.Gains.{withPins}
+use Rattle.board_law.proofs.Recount.{counts-with}
 use Rattle.board_law.proofs.Ends.{ends-turned}
-use Rattle.board_pins.proofs.Frees.{found}
 use Rattle.board_sides.specs.declared.EndPlaces.{EndPlaces}
+use Rattle.board_counts.proofs.Recounts.{Recounts}
 use Rattle.board.specs.declared.Board.{Board}
 
 -- ---- adding
@@ -70,24 +70,6 @@ not-added q x q′ m l r s e same answer refused bad sound =
       sound = subst Sound (sym same) sound;
     }
 
--- what the calls that look for a net's end places and count anew say, where y is the problem with the net: a is where it stands on south
--- and north, e on west and east
-pub record Recounts (y : Problem) (m step : ℕ) (a e : EndPlaces) (columns tracks columns′ tracks′ : List ℕ) : Type 0 where
-  pub along : Ends (entry (y .pins .south)) (entry (y .pins .north)) m (a .first) (a .last) (a .one) (a .two)
-  pub ends : Ends (entry (y .pins .west)) (entry (y .pins .east)) m (e .first) (e .last) (e .one) (e .two)
-  pub on-columns : Recounted (lowAlong (a .first) (e .one) (y .n .0 + 1)) (highAlong (a .last) (e .two) (y .n .0 + 1)) (y .n .0) step
-      columns columns′
-  pub on-tracks : Recounted (lowAlong (e .first) (a .one) (boxWidth y + 1)) (highAlong (e .last) (a .two) (boxWidth y + 1)) (boxWidth y)
-      step
-      tracks tracks′
-
--- of a grid of k places, which are as many as l
-pub recounted-along : (k l step : ℕ) (a e : EndPlaces) (old new : List ℕ) → k ≡ l
-    → Recounted (lowAlong (a .first) (e .one) (k + 1)) (highAlong (a .last) (e .two) (k + 1)) k step old new
-    → Recounted (lowAlong (a .first) (e .one) (l + 1)) (highAlong (a .last) (e .two) (l + 1)) l step old new
-recounted-along k l step a e old new same =
-    subst (λ (i : ℕ). Recounted (lowAlong (a .first) (e .one) (i + 1)) (highAlong (a .last) (e .two) (i + 1)) i step old new) same
-
 module _ (q x q′ : Problem) (ps : Pins) (m : ℕ) (l : List ℕ) (r : Refusal) (e : x ≡ q) (answer : r ≡ refusal 0 0)
     (right : refusal 0 0 ≡ addRefusalOn x m l)
     (stands : (s : Side) (a : ℕ) → In a longestSide → pinsIn ps s a ≡ withNet (pinsIn (x .pins)) m l s a)
@@ -123,8 +105,7 @@ module _ (q x q′ : Problem) (ps : Pins) (m : ℕ) (l : List ℕ) (r : Refusal)
   })
 
   pub added-counts : {a b : EndPlaces} {columns tracks columns′ tracks′ : List ℕ}
-      → Recounts (record { kind = x .kind; n = x .n; byte2 = x .byte2; nets = x .nets + 1; pins = ps }) m 1 a b columns tracks columns′
-      tracks′
+      → Recounts (withPins x (x .nets + 1) ps) m 1 a b columns tracks columns′ tracks′
       → Counted q columns tracks → Counted q′ columns′ tracks′
   added-counts {a} {b} {columns} {tracks} {columns′} {tracks′} given counted =
       let k = subst (λ (y : Problem). Recounts y m 1 a b columns tracks columns′ tracks′) (sym is) given in
@@ -133,41 +114,43 @@ module _ (q x q′ : Problem) (ps : Pins) (m : ℕ) (l : List ℕ) (r : Refusal)
 
 -- ---- dropping
 
-module _ (there : Bool) (m : ℕ) where
-  pub seven-drop : within m largestNet ≡ false → refusal 7 0 ≡ dropRefusal there m
-  unfolding dropRefusal
-  seven-drop a = rw a
+module _ (there : ℕ → Bool) (l : List ℕ) {count : ℕ} (is : count ≡ firstAbsent there l) where
+  pub is-absent : count ≢ length l → refusal 22 (getD l count 0) ≡ dropRefusal there l
+  is-absent ne = ap (λ (k : ℕ). refusal 22 (getD l k 0)) is ∙ sym (first-absent there l (λ e. ne (is ∙ e)))
 
-  pub not-there : within m largestNet ≡ true → there ≡ false → refusal 22 m ≡ dropRefusal there m
-  unfolding dropRefusal
-  not-there a b = rw (a, b)
+  module _ (all : count ≡ length l) where
+    pub is-repeat : {repeat : ℕ} → repeat ≡ firstRepeat l → repeat ≢ length l → refusal 23 repeat ≡ dropRefusal there l
+    is-repeat at ne = ap (refusal 23) at ∙ sym (first-repeat there l (sym is ∙ all) (λ e. ne (at ∙ e)))
 
-  pub is-there : within m largestNet ≡ true → there ≡ true → refusal 0 0 ≡ dropRefusal there m
-  unfolding dropRefusal
-  is-there a b = rw (a, b)
+    pub none-twice : firstRepeat l ≡ length l → refusal 0 0 ≡ dropRefusal there l
+    none-twice new = sym (no-repeat there l (sym is ∙ all) new)
 
-abbrev dropRefusalOn : Problem → ℕ → Refusal
-dropRefusalOn q m = dropRefusal (isThere (pinsIn (q .pins)) m) m
+    pub net-numbers : NetNumbers l
+    net-numbers = record { each = λ x e. all-there there l (sym is ∙ all) x e .0 }
 
-pub not-dropped : (q x q′ : Problem) (m : ℕ) (r s : Refusal) → x ≡ q → q′ ≡ q → r ≡ s → s ≡ dropRefusalOn x m → accepted s ≡ false
-    → Sound q → NetDropped q m r q′
-not-dropped q x q′ m r s e same answer refused bad sound =
+abbrev dropRefusalOn : Problem → List ℕ → Refusal
+dropRefusalOn q l = dropRefusal (isThere (pinsIn (q .pins))) l
+
+pub not-dropped : (q x q′ : Problem) (l : List ℕ) (r s : Refusal) → x ≡ q → q′ ≡ q → r ≡ s → s ≡ dropRefusalOn x l → accepted s ≡ false
+    → Sound q → NetsDropped q l r q′
+not-dropped q x q′ l r s e same answer refused bad sound =
     record {
-      refusal = answer ∙ refused ∙ ap (λ (y : Problem). dropRefusalOn y m) e;
+      refusal = answer ∙ refused ∙ ap (λ (y : Problem). dropRefusalOn y l) e;
       refused = λ z. same;
       dropped = λ ok. absurd (true≢false (sym ok ∙ ap accepted answer ∙ bad));
       sound = subst Sound (sym same) sound;
     }
 
-module _ (q x q′ : Problem) (ps : Pins) (m fewer : ℕ) (r : Refusal) (e : x ≡ q) (answer : r ≡ refusal 0 0)
-    (right : refusal 0 0 ≡ dropRefusalOn x m)
-    (without : (s : Side) (a : ℕ) → In a longestSide → pinsIn ps s a ≡ withoutNet (pinsIn (x .pins)) m s a) (one : fewer ≡ x .nets - 1)
-    (is : q′ ≡ record { kind = x .kind; n = x .n; byte2 = x .byte2; nets = fewer; pins = ps }) (sized : Sized q′) (sound : Sound q) where
+module _ (q x q′ : Problem) (ps : Pins) (l : List ℕ) (left : ℕ) (r : Refusal) (e : x ≡ q) (answer : r ≡ refusal 0 0)
+    (right : refusal 0 0 ≡ dropRefusalOn x l)
+    (others : (s : Side) (a : ℕ) → In a longestSide → pinsIn ps s a ≡ withoutNets (pinsIn (x .pins)) l s a) (fewer : left ≡ x .nets - length l)
+    (is : q′ ≡ record { kind = x .kind; n = x .n; byte2 = x .byte2; nets = left; pins = ps }) (sized : Sized q′)
+    {columns tracks columns′ tracks′ : List ℕ} (taken : Sound x → TakenAway x l columns tracks columns′ tracks′) (sound : Sound q) where
   sound-with : Sound x
   sound-with = subst Sound (sym e) sound
 
-  pins-left : (s : Side) (a : ℕ) → In a longestSide → pinsIn (q′ .pins) s a ≡ withoutNet (pinsIn (x .pins)) m s a
-  pins-left s a i = ap (λ (y : Problem). pinsIn (y .pins) s a) is ∙ without s a i
+  pins-left : (s : Side) (a : ℕ) → In a longestSide → pinsIn (q′ .pins) s a ≡ withoutNets (pinsIn (x .pins)) l s a
+  pins-left s a i = ap (λ (y : Problem). pinsIn (y .pins) s a) is ∙ others s a i
 
   same-kind : q′ .kind ≡ x .kind
   same-kind = ap (λ (y : Problem). y .kind) is
@@ -178,32 +161,21 @@ module _ (q x q′ : Problem) (ps : Pins) (m fewer : ℕ) (r : Refusal) (e : x �
   same-byte2 : q′ .byte2 ≡ x .byte2
   same-byte2 = ap (λ (y : Problem). y .byte2) is
 
-  dropping : accepted (dropRefusalOn x m) ≡ true
-  dropping = ap accepted (sym right)
+  is-without : q′ ≡ without x l
+  is-without = without-is l (sound-with .sized) sized same-kind same-n same-byte2 (ap (λ (y : Problem). y .nets) is ∙ fewer) pins-left
 
-  pub is-dropped : NetDropped q m r q′
-  is-dropped = subst (λ (y : Problem). NetDropped y m r q′) e (record {
+  pub are-dropped : NetsDropped q l r q′
+  are-dropped = subst (λ (y : Problem). NetsDropped y l r q′) e (record {
     refusal = answer ∙ right;
     refused = λ bad. absurd (true≢false (sym (ap accepted answer) ∙ bad));
     dropped = λ z. becomes sound-with same-kind same-n same-byte2 pins-left;
-    sound =
-        drop-sound m sound-with dropping sized pins-left same-kind same-n same-byte2 (ap (λ (y : Problem). y .nets) is ∙ one);
+    sound = subst Sound (sym is-without) (taken sound-with .sound);
   })
 
-  pub dropped-counts : {a b : EndPlaces} {columns tracks columns′ tracks′ : List ℕ}
-      → Recounts x m 255 a b columns tracks columns′ tracks′ → Counted q columns tracks → Counted q′ columns′ tracks′
-  dropped-counts {columns = columns} {tracks = tracks} k counted =
-      counts-without (drop-apart m sound-with dropping sized pins-left same-kind same-n same-byte2) (ends-turned (k .along)) (k .ends)
-      (k .on-columns) (k .on-tracks) (subst (λ (y : Problem). Counted y columns tracks) (sym e) counted)
-
--- a net that is on one of the four sides is there
-pub on-a-side : (ps : Pins) (m : ℕ) {f l f′ l′ : ℕ} {s n w e along ends some : Bool}
-    → Ends (entry (ps .south)) (entry (ps .north)) m f l s n → Ends (entry (ps .west)) (entry (ps .east)) m f′ l′ w e
-    → along ≡ (s || n) → ends ≡ (w || e) → some ≡ (along || ends) → some ≡ isThere (pinsIn ps) m
-on-a-side ps m {s = s} {n = n} a b on-along on-ends either-one =
-    either-one
-    ∙ ap₂ _||_ (on-along ∙ or-comm s n ∙ ap₂ _||_ (a .on-two) (a .on-one)) (on-ends ∙ ap₂ _||_ (b .on-one) (b .on-two))
-    ∙ found (pinsIn ps) m
+  pub dropped-counts : Counted q columns tracks → Counted q′ columns′ tracks′
+  dropped-counts counted =
+      subst (λ (y : Problem). Counted y columns′ tracks′) (sym is-without)
+      (taken sound-with .counted (subst (λ (y : Problem). Counted y columns tracks) (sym e) counted))
 
 -- ---- the counts of a board that is handed back as it was
 

@@ -2,14 +2,16 @@
 // Public calls: the functions of Board. Each takes every board and every number; what is said of a board that is `Sound` and whose counts
 // are true (`Counted`) is said of all, since Board's fields are private: a start gives such a board, and adding and dropping keep it so.
 use board_counts::COUNT_ENTRIES;
-use board_counts::ONE_FEWER;
 use board_counts::ONE_MORE;
+use board_counts::box_width;
 use board_counts::count_at;
 use board_counts::greatest;
 use board_counts::recount;
+use board_drops::counts_without;
+use board_drops::first_repeat;
 use board_pins::holds_net;
 use board_pins::place_net;
-use board_pins::without_net;
+use board_pins::without_nets;
 use board_sides::end_places;
 use figures::floor_for;
 use grid::Column;
@@ -17,12 +19,10 @@ use grid::Layer;
 use output::Written;
 use problem::Pins;
 use problem::Problem;
-use terms::BOX;
 use terms::BYTE_VALUES;
 use terms::ROW;
 use terms::Refusal;
 use terms::by_kind;
-use terms::either;
 use terms::is_within;
 use terms::larger;
 use terms::largest_byte2;
@@ -32,7 +32,7 @@ use terms::smaller;
 use terms::smaller_byte;
 use terms::wide;
 ghost use mathlib.Core.Path.{_≡_};
-ghost use mathlib.Core.Bool.{false, cond, _&&_};
+ghost use mathlib.Core.Bool.{true, false, cond, _&&_};
 ghost use Prim.Native.Nat.{_-_, _≤_};
 ghost use lib.ListN.{replicate};
 ghost use Rattle.terms.specs.Limits.{longestSide, largestNet, within};
@@ -42,9 +42,9 @@ ghost use Rattle.problem.specs.Problem.{pinsIn, widthOf, netCount};
 ghost use Rattle.output.specs.Writing.{Wrote};
 ghost use Rattle.ticket_bytes.specs.Bytes.{Sized, bytesOf};
 ghost use Rattle.survey.specs.Survey.{surveyOf};
-ghost use Rattle.board_law.specs.Edits.{isBoardKind, startRefusal, fresh, startProblem, isThere, Sound, NetAdded, NetDropped};
+ghost use Rattle.board_law.specs.Edits.{isBoardKind, startRefusal, fresh, startProblem, isThere, Sound, NetAdded, NetsDropped};
 ghost use Rattle.board_law.specs.Counts.{countEntries, columnCount, trackCount, Counted, storedAcross, storedUp};
-ghost use Rattle.board_law.specs.Runs.{boxWidth};
+ghost use Rattle.board_law.specs.Orders.{AsSingly};
 
 // The counts of columns and of tracks stand beside the problem: entry c - 1 is how many nets column c, or track c of a box, must pass.
 pub struct Board {
@@ -139,18 +139,11 @@ fn with_pins(q: Problem, nets: u8, pins: Pins) -> Problem
     }
 }
 
-// The width of a box, 0 for the other kinds.
-fn box_width(q: Problem) -> u8
-    requires { ⌜ widthOf q ≤ longestSide ⌝ }
-    ensures { λ r. ⌜ (r ≡ boxWidth q) × (r ≤ longestSide) ⌝ }
+// x less k, or 0 where k is more.
+fn fewer(x: u8, k: usize) -> u8
+    ensures { λ r. ⌜ r ≡ x - k ⌝ }
 {
-    if q.kind == BOX { q.byte2 } else { 0 }
-}
-
-fn one_fewer(x: u8) -> u8
-    ensures { λ r. ⌜ r ≡ x - 1 ⌝ }
-{
-    if x < 1 { 0 } else { x - 1 }
+    if wide(x) < k { 0 } else { x - k as u8 }
 }
 
 fn refused(board: Board, number: u8, place: usize) -> Edited
@@ -219,8 +212,10 @@ impl Board {
         let w = box_width(q);
         let along = end_places(&pins.south, &pins.north, net as u8);
         let ends = end_places(&pins.west, &pins.east, net as u8);
-        let columns = recount(&self.columns, along, ends, n, ONE_MORE);
-        let tracks = recount(&self.tracks, ends, along, w, ONE_MORE);
+        let mut columns = self.columns;
+        let mut tracks = self.tracks;
+        recount(&mut columns, along, ends, n, ONE_MORE);
+        recount(&mut tracks, ends, along, w, ONE_MORE);
         Edited {
             refusal: refuse(0, 0),
             board: Board {
@@ -231,29 +226,36 @@ impl Board {
         }
     }
 
-    // Takes a net away whole, or says 7 or 22.
-    pub fn drop(mut self, net: usize) -> Edited
+    // Takes the nets of a list away whole, all or none, or says 22 or 23.
+    pub fn drop(mut self, nets: &[usize]) -> Edited
         ensures refused { λ r. ⌜ (accepted (r .refusal) ≡ false → r .board ≡ self) ⌝ }
-        ensures dropped { λ r. ⌜ (Sound (self .problem) → NetDropped (self .problem) net (r .refusal) (r .board .problem)) ⌝ }
+        ensures dropped { λ r. ⌜ (Sound (self .problem)
+            → NetsDropped (self .problem) (now (nets .entry)) (r .refusal) (r .board .problem)) ⌝ }
         ensures counted { λ r. ⌜ (Sound (self .problem) → Counted (self .problem) (self .columns) (self .tracks)
             → Counted (r .board .problem) (r .board .columns) (r .board .tracks)) ⌝ }
+        ensures singly { λ r. ⌜ (Sound (self .problem) → Counted (self .problem) (self .columns) (self .tracks)
+            → accepted (r .refusal) ≡ true
+            → AsSingly (record { problem = self .problem; columns = self .columns; tracks = self .tracks }) (now (nets .entry))
+            (record { problem = r .board .problem; columns = r .board .columns; tracks = r .board .tracks })) ⌝ }
     {
         let q = limited(self.problem);
+        let size = nets.len();
+        let old_columns = self.columns;
+        let old_tracks = self.tracks;
+        let left = counts_without(q, old_columns, old_tracks, nets);
+        let columns = left.columns;
+        let tracks = left.tracks;
+        let count = left.count;
+        if count != size {
+            return refused(self, 22, nets[count]);
+        }
+        let repeat = first_repeat(nets);
+        if repeat != size {
+            return refused(self, 23, repeat);
+        }
         let before = q.pins;
-        if !is_within(net, Self::LARGEST_NET) {
-            return refused(self, 7, 0);
-        }
-        let along = end_places(&before.south, &before.north, net as u8);
-        let ends = end_places(&before.west, &before.east, net as u8);
-        if !either(either(along.one, along.two), either(ends.one, ends.two)) {
-            return refused(self, 22, net);
-        }
-        let pins = without_net(before, net as u8);
-        let problem = with_pins(q, one_fewer(q.nets), pins);
-        let n = grid::column_count(q.n) as u8;
-        let w = box_width(q);
-        let columns = recount(&self.columns, along, ends, n, ONE_FEWER);
-        let tracks = recount(&self.tracks, ends, along, w, ONE_FEWER);
+        let pins = without_nets(before, nets);
+        let problem = with_pins(q, fewer(q.nets, size), pins);
         Edited {
             refusal: refuse(0, 0),
             board: Board {

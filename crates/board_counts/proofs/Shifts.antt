@@ -1,14 +1,13 @@
 -- Counts changed at the places of a run, one entry after the other; and the run of a net, as the code works it out.
 use Prim.Native.Nat.{ℕ, _+_, _-_, _%_, _^_, _≤_, _<_, min, max}
 use mathlib.Core.Path.{_≡_, refl, sym, ap, _∙_, subst₂}
-use mathlib.Core.Bool.{Bool, true, false, cond, _&&_, and-false}
+use mathlib.Core.Bool.{Bool, false, cond, _&&_, and-false}
 use mathlib.Core.List.{List}
-use native.Mathlib.Decide.{ℕ-discrete, decLe, decLt}
+use native.Mathlib.Decide.{decLe, decLt}
 use native.Mathlib.Omega.{arith}
 use native.Mathlib.Numerals.{add-one}
 use lib.Dec.{eqb, leb, ltb}
-use lib.ListN.{length, getD, set}
-use lib.Seq.{getD-set-same, getD-set-other}
+use lib.ListN.{getD}
 use borrow.Author.Tests.{le-leb, lt-leb, lt-ltb, le-ltb}
 use Rattle.counting.specs.Counting.{In, most}
 use Rattle.counting.proofs.Sums.{split}
@@ -17,6 +16,7 @@ use Rattle.grid.specs.Legal.{entry}
 use Rattle.grid.proofs.Entries.{entry-at}
 use Rattle.board_law.specs.Counts.{countEntries}
 use Rattle.board_law.specs.Runs.{runFrom, inRun, shifted, Recounted}
+use Rattle.board_sides.proofs.InPlace.{Passed}
 
 -- the places of a run of so many from `from` on
 abbrev pub covers : ℕ → ℕ → ℕ → Bool
@@ -33,23 +33,17 @@ near-from from size at r f s i fits wraps = elim (decLe from at) [
   | no h ↦ le-ltb r size (omega arith) ∙ sym (rw (lt-leb from at (omega arith)))
 ]
 
-module _ (list counts : List ℕ) (from size step : ℕ) where
-  abbrev pub Shifted : ℕ → Type 0
-  Shifted i = (k : ℕ) → k < i → getD counts k 0 ≡ shifted (getD list k 0) (covers from size (k + 1)) step
+-- what becomes of entry k of the list, which is place k + 1
+abbrev pub shiftedAt : ℕ → ℕ → ℕ → ℕ → ℕ → ℕ
+shiftedAt from size step k x = shifted x (covers from size (k + 1)) step
 
-  pub shifted-all : Shifted countEntries → (c : ℕ) → In c countEntries → entry counts c ≡ shifted (entry list c) (covers from size c) step
-  shifted-all all c i =
-      let here : c - 1 + 1 ≡ c = omega arith in
-      entry-at counts c (i .0) ∙ all (c - 1) (omega arith)
-      ∙ (λ k. shifted (sym (entry-at list c (i .0)) k) (covers from size (here k)) step)
-
-pub shifted-more : (list counts : List ℕ) (from size step i r : ℕ) → i < length counts
-    → r ≡ shifted (getD list i 0) (covers from size (i + 1)) step → Shifted list counts from size step i
-    → Shifted list (set counts i r) from size step (i + 1)
-shifted-more list counts from size step i r h e before k l = elim (ℕ-discrete k i) [
-  | yes q ↦ rw q (getD-set-same counts i r 0 h ∙ e)
-  | no ne ↦ getD-set-other counts i k r 0 ne ∙ before k (omega (arith, ne))
-]
+pub shifted-all : (from size step i : ℕ) (list counts : List ℕ) → countEntries ≤ i
+    → Passed (shiftedAt from size step) countEntries i list counts
+    → (c : ℕ) → In c countEntries → entry counts c ≡ shifted (entry list c) (covers from size c) step
+shifted-all from size step i list counts all w c j =
+    let here : c - 1 + 1 ≡ c = omega arith in
+    entry-at counts c (j .0) ∙ w .done (c - 1) (omega arith)
+    ∙ (λ k. shifted (sym (entry-at list c (j .0)) k) (covers from size (here k)) step)
 
 -- ---- the greatest entry
 

@@ -23,7 +23,7 @@ use Rattle.problem.specs.Problem.{pinsIn, pinCount, shapeOf, Good}
 use Rattle.problem.proofs.Sizes.{side-fits}
 use Rattle.problem.proofs.Pinned.{pinned, a-pin}
 use Rattle.board_law.specs.Places.{placeNumber, sideIn, placeIn, isPlace, listed}
-use Rattle.board_law.specs.Edits.{fresh, isThere, isFree, addRefusal, dropRefusal, Sound}
+use Rattle.board_law.specs.Edits.{fresh, isThere, isFree, addRefusal, firstAbsent, dropRefusal, Sound}
 use Rattle.board_law.specs.History.{NetPlaces, isIn, isTaken, isOpen}
 use Rattle.board_law.proofs.Places.{number-back, is-place}
 
@@ -123,7 +123,13 @@ module _ {q₀ q : Problem} {ns : NetPlaces} (h : Holds q₀ q ns) where
   adds-agree m l =
       split (within m largestNet) (λ is i. addRefusal (there-same m (within-in m largestNet is) i) (free-same i) m l) (λ none. rw none)
 
-  pub drops-agree : (m : ℕ) → dropRefusal (isThere p m) m ≡ dropRefusal (isIn ns m) m
+  absent-same : (l : List ℕ) → firstAbsent (isThere p) l ≡ firstAbsent (isIn ns) l
+  unfolding firstAbsent
+  absent-same [] = refl
+  absent-same (m ∷ l) = split (within m largestNet)
+      (λ is. rw (there-same m (within-in m largestNet is), absent-same l))
+      (λ none. rw none)
+
+  pub drops-agree : (l : List ℕ) → dropRefusal (isThere p) l ≡ dropRefusal (isIn ns) l
   unfolding dropRefusal
-  drops-agree m =
-      split (within m largestNet) (λ is i. dropRefusal (there-same m (within-in m largestNet is) i) m) (λ none. rw none)
+  drops-agree l = rw (absent-same l)

@@ -3,13 +3,13 @@
 use Prim.Native.Nat.{ℕ, zero, suc, _+_, _-_, _≤_}
 use mathlib.Core.Path.{_≡_, refl, sym, ap, _∙_, subst, subst₂}
 use mathlib.Core.Logic.{_≢_, by-cases}
-use mathlib.Core.Bool.{Bool, true, false, or-false, and-eq-true-iff}
+use mathlib.Core.Bool.{Bool, true, false, cond, or-false, and-eq-true-iff}
 use mathlib.Core.List.{List, [], _∷_}
 use native.Mathlib.Decide.{ℕ-discrete, decLe}
 use native.Mathlib.Omega.{arith}
 use lib.Dec.{eqb}
 use lib.ListN.{length, List·getD-eq-default}
-use borrow.Author.Tests.{eqb-true, eqb-false, eq-eqb, leb-true, leb-false}
+use borrow.Author.Tests.{eqb-true, eqb-false, eq-eqb, leb-false}
 use Rattle.counting.specs.Counting.{In}
 use Rattle.counting.proofs.Sums.{split}
 use Rattle.terms.specs.Limits.{longestSide, largestNet}
@@ -23,10 +23,9 @@ use Rattle.problem.proofs.Pinned.{pinned}
 use Rattle.problem.proofs.Sizes.{side-fits}
 use Rattle.ticket_bytes.specs.Bytes.{Sized}
 use Rattle.board_law.specs.Places.{placeNumber, sideIn, placeIn, isPlace, listed}
-use Rattle.board_law.specs.Edits.{isBoardKind, isThere, isFree, firstWrong, addRefusal, dropRefusal, withNet, withoutNet}
-use Rattle.board_law.specs.Edits.{Sound, Becomes}
+use Rattle.board_law.specs.Edits.{isBoardKind, isThere, isFree, firstWrong, addRefusal, withNet, Sound, Becomes}
 use Rattle.board_law.proofs.Places.{side-back, place-back, number-back, is-place}
-use Rattle.board_law.proofs.Accepted.{accepted-add, accepted-drop, first-right, all-free}
+use Rattle.board_law.proofs.Accepted.{accepted-add, first-right, all-free}
 use Rattle.board_law.proofs.Gains.{Gains, stays, fills, Vacant, withPins, with-good, without-good}
 use Rattle.board_law.proofs.Apart.{Apart}
 
@@ -168,7 +167,11 @@ module _ {q q′ : Problem} (m : ℕ) (l : List ℕ) (sound : Sound q)
 
 -- ---- dropping
 
-module _ {q q′ : Problem} (m : ℕ) (sound : Sound q) (ok : accepted (dropRefusal (isThere (pinsIn (q .pins)) m) m) ≡ true)
+-- the pins but those of one net
+abbrev pub withoutNet : Pins → ℕ → Pins
+withoutNet p m s a = cond (eqb (p s a) m) 0 (p s a)
+
+module _ {q q′ : Problem} (m : ℕ) (sound : Sound q) (is-net : In m largestNet) (was-there : 1 ≤ pinCount (pinsIn (q .pins)) m)
     (sized : Sized q′)
     (pins : (s : Side) (a : ℕ) → In a longestSide → pinsIn (q′ .pins) s a ≡ withoutNet (pinsIn (q .pins)) m s a) where
   -- a place that held the net is empty, and another holds what it held
@@ -178,14 +181,8 @@ module _ {q q′ : Problem} (m : ℕ) (sound : Sound q) (ok : accepted (dropRefu
       (λ e. fills (pins s a j ∙ rw e) (eqb-true _ m e))
       (λ ne. let same = pins s a j ∙ rw ne in stays same (λ e. eqb-false _ m ne (sym same ∙ e)))
 
-  is-net : In m largestNet
-  is-net = accepted-drop (isThere (pinsIn (q .pins)) m) m ok .0
-
   lost : (s : Side) (a : ℕ) → Gains m (pinsIn (q′ .pins) s a) (pinsIn (q .pins) s a)
   lost = everywhere sized (sound .sized) is-net lost-at
-
-  was-there : 1 ≤ pinCount (pinsIn (q .pins)) m
-  was-there = leb-true 1 (pinCount (pinsIn (q .pins)) m) (accepted-drop (isThere (pinsIn (q .pins)) m) m ok .1)
 
   -- dropping a net that is there keeps a board sound
   pub drop-sound : q′ .kind ≡ q .kind → q′ .n ≡ q .n → q′ .byte2 ≡ q .byte2 → q′ .nets ≡ q .nets - 1 → Sound q′

@@ -2,7 +2,7 @@
 use Prim.Native.Nat.{ℕ, zero, suc, _+_, _≤_, _<_}
 use mathlib.Core.Path.{_≡_, refl, sym, ap, ap₂, _∙_, fun-ext}
 use mathlib.Core.Logic.{by-cases}
-use mathlib.Core.Bool.{Bool, false, cond, or-comm}
+use mathlib.Core.Bool.{Bool, false, cond, _||_, or-comm}
 use native.Mathlib.Decide.{ℕ-discrete}
 use native.Mathlib.Omega.{arith}
 use lib.Dec.{eqb, leb}
@@ -30,7 +30,7 @@ use Rattle.board_law.proofs.Runs.{Lies, box-passed, plain-passed}
 
 -- ---- what fails past n is not found there
 
-least-past : (t : ℕ → Bool) (n top : ℕ) → n ≤ top → ((x : ℕ) → n < x → t x ≡ false) → least t n ≡ least t top
+pub least-past : (t : ℕ → Bool) (n top : ℕ) → n ≤ top → ((x : ℕ) → n < x → t x ≡ false) → least t n ≡ least t top
 unfolding least
 least-past t n zero le out = let e : n ≡ 0 = omega arith in rw e
 least-past t n (suc top) le out = by-cases (ℕ-discrete n (suc top))
@@ -40,7 +40,7 @@ least-past t n (suc top) le out = by-cases (ℕ-discrete n (suc top))
     keeps : (x : ℕ) → x ≡ cond (eqb x 0) 0 x
     keeps x = by-cases (ℕ-discrete x 0) (λ z. rw z) (λ nz. rw (ne-eqb x 0 nz))
 
-last-past : (a b : ℕ → ℕ) (n top m : ℕ) → n ≤ top → ((x : ℕ) → n < x → holdsAt a b m x ≡ false) → lastHeld a b n m ≡ lastHeld a b top m
+pub last-past : (a b : ℕ → ℕ) (n top m : ℕ) → n ≤ top → ((x : ℕ) → n < x → holdsAt a b m x ≡ false) → lastHeld a b n m ≡ lastHeld a b top m
 unfolding lastHeld
 last-past a b n zero m le out = let e : n ≡ 0 = omega arith in rw e
 last-past a b n (suc top) m le out = by-cases (ℕ-discrete n (suc top))
@@ -188,13 +188,25 @@ module _ {q : Problem} (good : Good q) {m : ℕ} (one : 1 ≤ m) where
           bare s lacks =
               sum-zero (λ x. bit (eqb (p s x) m)) w (λ x i. bit-zero (ne-eqb (p s x) m (λ e. omega (arith, good .bare s lacks x))))
 
--- ---- the two sides in the other order
+-- ---- sides that have the net at the same places, and two sides in the other order
 
-last-turned : (a b : ℕ → ℕ) (m top : ℕ) → lastHeld a b top m ≡ lastHeld b a top m
+pub last-same : (a b a′ b′ : ℕ → ℕ) (m n : ℕ) → ((c : ℕ) → In c n → holdsAt a b m c ≡ holdsAt a′ b′ m c)
+    → lastHeld a b n m ≡ lastHeld a′ b′ n m
 unfolding lastHeld
-last-turned a b m zero = refl
-last-turned a b m (suc top) =
-    ap₂ (λ (t : Bool) (x : ℕ). cond t (suc top) x) (or-comm (eqb (a (suc top)) m) (eqb (b (suc top)) m)) (last-turned a b m top)
+last-same a b a′ b′ m zero e = refl
+last-same a b a′ b′ m (suc n) e = rw (e (suc n) (omega arith), last-same a b a′ b′ m n (λ c i. e c (omega arith)))
+
+-- where a net stands depends on its own places alone
+pub same-ends : {a b a′ b′ : ℕ → ℕ} {m low high : ℕ} {one two : Bool} → ((c : ℕ) → eqb (a′ c) m ≡ eqb (a c) m)
+    → ((c : ℕ) → eqb (b′ c) m ≡ eqb (b c) m) → Ends a b m low high one two → Ends a′ b′ m low high one two
+same-ends {a} {b} {a′} {b′} {m} f g e =
+    let holds : holdsAt a b m ≡ holdsAt a′ b′ m = fun-ext (λ c i. sym (f c) i || sym (g c) i) in
+    record {
+      on-one = e .on-one ∙ ap (λ (t : ℕ → Bool). some t longestSide) (fun-ext (λ c. sym (f c)));
+      on-two = e .on-two ∙ ap (λ (t : ℕ → Bool). some t longestSide) (fun-ext (λ c. sym (g c)));
+      first = e .first ∙ ap (λ (t : ℕ → Bool). orNoPlace (least t longestSide)) holds;
+      last = e .last ∙ last-same a b a′ b′ m longestSide (λ c i. ap (λ (t : ℕ → Bool). t c) holds);
+    }
 
 pub ends-turned : {a b : ℕ → ℕ} {m low high : ℕ} {one two : Bool} → Ends a b m low high one two → Ends b a m low high two one
 ends-turned {a} {b} {m} e =
@@ -203,7 +215,7 @@ ends-turned {a} {b} {m} e =
       on-one = e .on-two;
       on-two = e .on-one;
       first = e .first ∙ ap (λ (t : ℕ → Bool). orNoPlace (least t longestSide)) same;
-      last = e .last ∙ last-turned a b m longestSide;
+      last = e .last ∙ last-same a b b a m longestSide (λ c i. ap (λ (t : ℕ → Bool). t c) same);
     }
 
 -- ---- the columns and the tracks that must pass it

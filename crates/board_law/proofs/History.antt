@@ -21,7 +21,7 @@ use Rattle.board_law.proofs.Places.{listed-none}
 use Rattle.board_law.proofs.Start.{start-bare, start-sound}
 use Rattle.board_law.proofs.Stored.{survey-is, count-small, stored-across, stored-up, stored-floor}
 use Rattle.board_law.proofs.Agreement.{Holds, there-same, adds-agree, drops-agree}
-use Rattle.board_law.proofs.Steps.{net-added, net-dropped}
+use Rattle.board_law.proofs.Steps.{net-added, nets-dropped}
 
 -- ---- the start
 
@@ -43,9 +43,9 @@ calls-hold : {q₀ : Problem} {b b′ : BoardState} {ns : NetPlaces} {cs : List 
 unfolding netsAfter
 calls-hold h done = h
 calls-hold h (adds c k more) = calls-hold (net-added h c) more
-calls-hold h (drops c k more) = calls-hold (net-dropped h c) more
+calls-hold h (drops c k more) = calls-hold (nets-dropped h c) more
 
-calls-count : {b b′ : BoardState} {cs : List Call} → Counted (b .problem) (b .columns) (b .tracks) → LeadsTo b cs b′
+pub calls-count : {b b′ : BoardState} {cs : List Call} → Counted (b .problem) (b .columns) (b .tracks) → LeadsTo b cs b′
     → Counted (b′ .problem) (b′ .columns) (b′ .tracks)
 calls-count counted done = counted
 calls-count counted (adds c k more) = calls-count (k counted) more

@@ -7,9 +7,11 @@ pub mod Runs
 pub mod Ends
 pub mod Recount
 pub mod Changes
+pub mod Without
 pub mod Start
 pub mod Stored
 pub mod Agreement
 pub mod OneNet
 pub mod Steps
 pub mod History
+pub mod Orders

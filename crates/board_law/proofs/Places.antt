@@ -1,12 +1,13 @@
 -- A place's number says its side and its place, and these say the number; what a list has.
-use Prim.Native.Nat.{ℕ, _-_, _≤_, _<_}
+use Prim.Native.Nat.{ℕ, zero, suc, _-_, _≤_, _<_}
 use mathlib.Core.Path.{_≡_, refl, sym, ap, _∙_, subst}
-use mathlib.Core.Bool.{Bool, true, false, _&&_, _||_, and-eq-true-iff, or-false, or-assoc}
+use mathlib.Core.Bool.{Bool, true, false, _&&_, _||_, and-eq-true-iff, or-true, or-false, or-assoc}
 use mathlib.Core.List.{List, [], _∷_, _++_}
 use native.Mathlib.Decide.{decLt}
 use native.Mathlib.Omega.{arith}
 use lib.Dec.{eqb}
-use borrow.Author.Tests.{lt-ltb, le-ltb}
+use lib.ListN.{length, getD}
+use borrow.Author.Tests.{eq-eqb, lt-ltb, le-ltb}
 use Rattle.counting.specs.Counting.{In}
 use Rattle.terms.specs.Limits.{byteValues, within}
 use Rattle.terms.specs.Kinds.{Side, north, south, west, east, hasSide}
@@ -93,3 +94,10 @@ pub listed-last : (l : List ℕ) (x v : ℕ) → listed (l ++ (x ∷ [])) v ≡ 
 unfolding listed
 listed-last [] x v = or-false (eqb x v)
 listed-last (y ∷ l) x v = ap (λ (t : Bool). eqb y v || t) (listed-last l x v) ∙ sym (or-assoc (eqb y v) (listed l v) (eqb x v))
+
+-- each entry of a list is in it
+pub listed-at : (l : List ℕ) (i : ℕ) → i < length l → listed l (getD l i 0) ≡ true
+unfolding listed
+listed-at [] i h = absurd (omega arith)
+listed-at (x ∷ l) zero h = rw (eq-eqb x x refl)
+listed-at (x ∷ l) (suc i) h = ap (λ (t : Bool). eqb x (getD l i 0) || t) (listed-at l i (omega arith)) ∙ or-true (eqb x (getD l i 0))

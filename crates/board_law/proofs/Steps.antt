@@ -1,9 +1,9 @@
 -- After one call the board holds the pins of the nets that are there: the board refuses what the nets refuse (Agreement), and what is
--- accepted changes one net (OneNet).
+-- accepted changes the pins and the lists of the same nets (OneNet).
 use Prim.Native.Nat.{ℕ, _≤_, _<_}
 use mathlib.Core.Path.{_≡_, refl, sym, ap, ap₂, _∙_, subst}
 use mathlib.Core.Logic.{_≢_}
-use mathlib.Core.Bool.{true, false, and-eq-true-iff, true≢false}
+use mathlib.Core.Bool.{Bool, true, false, cond, and-eq-true-iff, true≢false}
 use mathlib.Core.List.{List, []}
 use native.Mathlib.Omega.{arith}
 use lib.Dec.{eqb}
@@ -20,12 +20,12 @@ use Rattle.problem.specs.Problem.{pinsIn, pinCount, shapeOf}
 use Rattle.problem.proofs.Sizes.{side-fits}
 use Rattle.problem.proofs.Pinned.{pinned}
 use Rattle.board_law.specs.Places.{placeNumber, sideIn, placeIn, isPlace, listed}
-use Rattle.board_law.specs.Edits.{isThere, isFree, addRefusal, dropRefusal, withNet, withoutNet, Sound, Becomes, NetAdded, NetDropped}
-use Rattle.board_law.specs.History.{adding, dropping, NetPlaces, isIn, isOpen, changed, afterCall}
+use Rattle.board_law.specs.Edits.{isThere, isFree, addRefusal, dropRefusal, withNet, withoutNets, Sound, Becomes, NetAdded, NetsDropped}
+use Rattle.board_law.specs.History.{adding, dropping, NetPlaces, isIn, isOpen, changed, emptied, afterCall}
 use Rattle.board_law.proofs.Places.{side-back, place-back, listed-none}
-use Rattle.board_law.proofs.Accepted.{accepted-add, accepted-drop, all-free}
+use Rattle.board_law.proofs.Accepted.{accepted-add, all-free}
 use Rattle.board_law.proofs.Agreement.{Holds, adds-agree, drops-agree}
-use Rattle.board_law.proofs.OneNet.{chosen, one-changes}
+use Rattle.board_law.proofs.OneNet.{chosen, nets-change, one-changes}
 
 free-is : (q : Problem) (p : Pins) (v : ℕ) → isFree q p v ≡ true → (isPlace q v ≡ true) × (p (sideIn v) (placeIn v) ≡ 0)
 unfolding isFree
@@ -75,26 +75,42 @@ module _ {q₀ q : Problem} {ns : NetPlaces} (h : Holds q₀ q ns) where
       (λ e. net-put m l (ap accepted (adds-agree h m l) ∙ e) (c .added (ap accepted agree ∙ e)) (c .sound))
       (λ e. subst (λ z. Holds q₀ z ns) (sym (c .refused (ap accepted agree ∙ e))) h)
 
-  -- ---- a net that is dropped has no pin left
+  -- ---- nets that are dropped have no pin left, and the others keep theirs
 
-  off-own : (m : ℕ) → 1 ≤ m → (s : Side) (a : ℕ) → eqb (withoutNet p m s a) m ≡ listed [] (placeNumber s a)
-  off-own m one s a =
-      chosen (λ y. eqb y m ≡ false) (eqb (p s a) m) (λ e. ne-eqb 0 m (λ f. omega arith)) (λ e. e) ∙ sym (listed-none (placeNumber s a))
+  left-at : (l : List ℕ) (s : Side) (a x : ℕ) → 1 ≤ x → In a (places (shapeOf q) s)
+      → eqb (withoutNets p l s a) x ≡ cond (listed l x) false (eqb (p s a) x)
+  left-at l s a x one i =
+      chosen (λ y. eqb y x ≡ cond (listed l x) false (eqb (p s a) x)) (listed l (p s a))
+      (λ e. ne-eqb 0 x (λ f. omega arith) ∙ gone e)
+      (λ e. kept e)
+    where
+      gone : listed l (p s a) ≡ true → false ≡ cond (listed l x) false (eqb (p s a) x)
+      gone e =
+          chosen (λ t. false ≡ t) (listed l x) (λ f. refl)
+          (λ f. sym (ne-eqb (p s a) x (λ same. true≢false (sym e ∙ ap (listed l) same ∙ f))))
 
-  off-others : (m : ℕ) (s : Side) (a x : ℕ) → 1 ≤ x → x ≢ m → eqb (withoutNet p m s a) x ≡ eqb (p s a) x
-  off-others m s a x one other =
-      chosen (λ y. eqb y x ≡ eqb (p s a) x) (eqb (p s a) m)
-      (λ e. ne-eqb 0 x (λ f. omega arith) ∙ sym (ne-eqb (p s a) x (λ f. other (sym f ∙ eqb-true (p s a) m e))))
-      (λ e. refl)
+      kept : listed l (p s a) ≡ false → eqb (p s a) x ≡ cond (listed l x) false (eqb (p s a) x)
+      kept e =
+          chosen (λ t. eqb (p s a) x ≡ t) (listed l x)
+          (λ f. ne-eqb (p s a) x (λ same. true≢false (sym f ∙ sym (ap (listed l) same) ∙ e)))
+          (λ f. refl)
 
-  net-off : {q′ : Problem} (m : ℕ) → In m largestNet → Becomes q (withoutNet p m) q′ → Sound q′ → Holds q₀ q′ (changed ns m [])
-  net-off m j b sound =
-      one-changes m [] h b sound (λ v f. absurd (true≢false (sym f ∙ listed-none v))) (λ s a i. off-own m (j .0) s a)
-      (λ s a x i. off-others m s a x)
+  nets-off : {q′ : Problem} (l : List ℕ) → Becomes q (withoutNets p l) q′ → Sound q′ → Holds q₀ q′ (emptied ns l)
+  nets-off l b sound =
+      nets-change h b sound
+      (λ x v j e. chosen (λ k. listed k v ≡ true → isPlace q v ≡ true) (listed l x)
+      (λ gone f. absurd (true≢false (sym f ∙ listed-none v)))
+      (λ there. h .listed-places x v j) e)
+      (λ s a x i j. left-at l s a x (j .0) i ∙ by-list s a x i j (listed l x))
+    where
+      by-list : (s : Side) (a x : ℕ) → In a (places (shapeOf q) s) → In x largestNet → (t : Bool)
+          → cond t false (eqb (p s a) x) ≡ listed (cond t [] (ns x)) (placeNumber s a)
+      by-list s a x i j true = sym (listed-none (placeNumber s a))
+      by-list s a x i j false = h .pins s a x i j
 
-  pub net-dropped : {q′ : Problem} {m : ℕ} {r : Refusal} → NetDropped q m r q′ → Holds q₀ q′ (afterCall q₀ ns (dropping m))
-  net-dropped {q′} {m} {r} c =
-      let agree : r ≡ dropRefusal (isIn ns m) m = c .refusal ∙ drops-agree h m in
-      chosen (Holds q₀ q′) (accepted (dropRefusal (isIn ns m) m))
-      (λ e. net-off m (accepted-drop (isIn ns m) m e .0) (c .dropped (ap accepted agree ∙ e)) (c .sound))
+  pub nets-dropped : {q′ : Problem} {l : List ℕ} {r : Refusal} → NetsDropped q l r q′ → Holds q₀ q′ (afterCall q₀ ns (dropping l))
+  nets-dropped {q′} {l} {r} c =
+      let agree : r ≡ dropRefusal (isIn ns) l = c .refusal ∙ drops-agree h l in
+      chosen (Holds q₀ q′) (accepted (dropRefusal (isIn ns) l))
+      (λ e. nets-off l (c .dropped (ap accepted agree ∙ e)) (c .sound))
       (λ e. subst (λ z. Holds q₀ z ns) (sym (c .refused (ap accepted agree ∙ e))) h)

@@ -2,14 +2,15 @@
 -- since dropped, and across, up and floor are those that a survey of its ticket gives" (document 02, job 7); "every stored figure equals
 -- the definition" (job 8). The law is `history` of proofs/History.antt.
 --
---   Call                 a call on a board: adding a net at a list of places, or dropping a net
+--   Call                 a call on a board: adding a net at a list of places, or dropping a list of nets
 --   NetPlaces            the nets that are there: for each its list of places, which is empty where the net is not there
 --   noNets               "starts without pins"
 --   isIn ns m            net m is there
 --   isTaken ns v         one of the nets has the place v: it is "filled"
 --   isOpen q ns v        v is a place of the board, by its kind and shape, that no net has
 --   changed ns m l       the nets, with the list l for net m
---   afterCall q ns c     the nets after a call: a net that is added has the places that the call lists, one that is dropped has none, and
+--   emptied ns l         the nets, with no place for those of the list l
+--   afterCall q ns c     the nets after a call: a net that is added has the places that the call lists, those that are dropped have none, and
 --                        "A refused call leaves the board as it found it"
 --   netsAfter q ns cs    the nets after a list of calls, the first call first
 --   BoardState           what a board holds: a problem, and the stored figures of columns and tracks
@@ -50,12 +51,12 @@ use Rattle.ticket.specs.Read.{acceptedReading, ticketOf}
 use Rattle.ticket_bytes.specs.Bytes.{bytesOf}
 use Rattle.survey.specs.Survey.{answered, surveyOf}
 use Rattle.board_law.specs.Places.{placeNumber, isPlace, listed}
-use Rattle.board_law.specs.Edits.{startProblem, isThere, isFree, addRefusal, dropRefusal, NetAdded, NetDropped}
+use Rattle.board_law.specs.Edits.{startProblem, isThere, isFree, addRefusal, dropRefusal, NetAdded, NetsDropped}
 use Rattle.board_law.specs.Counts.{countEntries, Counted, storedAcross, storedUp, storedFloor}
 
 pub data Call : Type 0 where
   adding : ℕ → List ℕ → Call
-  dropping : ℕ → Call
+  dropping : List ℕ → Call
 
 abbrev pub NetPlaces : Type 0
 NetPlaces = ℕ → List ℕ
@@ -75,9 +76,12 @@ isOpen q ns v = isPlace q v && not (isTaken ns v)
 abbrev pub changed : NetPlaces → ℕ → List ℕ → NetPlaces
 changed ns m l x = cond (eqb x m) l (ns x)
 
+abbrev pub emptied : NetPlaces → List ℕ → NetPlaces
+emptied ns l x = cond (listed l x) [] (ns x)
+
 abbrev pub afterCall : Problem → NetPlaces → Call → NetPlaces
 afterCall q ns (adding m l) = cond (accepted (addRefusal (isIn ns m) (isOpen q ns) m l)) (changed ns m l) ns
-afterCall q ns (dropping m) = cond (accepted (dropRefusal (isIn ns m) m)) (changed ns m []) ns
+afterCall q ns (dropping l) = cond (accepted (dropRefusal (isIn ns) l)) (emptied ns l) ns
 
 unfoldable pub netsAfter : Problem → NetPlaces → List Call → NetPlaces
 netsAfter q ns [] = ns
@@ -99,8 +103,8 @@ pub data LeadsTo : BoardState → List Call → BoardState → Type 0 where
   done : {b : BoardState} → LeadsTo b [] b
   adds : {b b′ b″ : BoardState} {m : ℕ} {l : List ℕ} {r : Refusal} {cs : List Call}
       → NetAdded (b .problem) m l r (b′ .problem) → CountsKept b b′ → LeadsTo b′ cs b″ → LeadsTo b (adding m l ∷ cs) b″
-  drops : {b b′ b″ : BoardState} {m : ℕ} {r : Refusal} {cs : List Call}
-      → NetDropped (b .problem) m r (b′ .problem) → CountsKept b b′ → LeadsTo b′ cs b″ → LeadsTo b (dropping m ∷ cs) b″
+  drops : {b b′ b″ : BoardState} {l : List ℕ} {r : Refusal} {cs : List Call}
+      → NetsDropped (b .problem) l r (b′ .problem) → CountsKept b b′ → LeadsTo b′ cs b″ → LeadsTo b (dropping l ∷ cs) b″
 
 pub record Kept (q₀ q : Problem) (ns : NetPlaces) : Type 0 where
   pub kind : q .kind ≡ q₀ .kind
@@ -111,7 +115,7 @@ pub record Kept (q₀ q : Problem) (ns : NetPlaces) : Type 0 where
   pub places : (m v : ℕ) → In m largestNet → listed (ns m) v ≡ true → isPlace q v ≡ true
   pub add-refusals : (m : ℕ) (l : List ℕ)
       → addRefusal (isThere (pinsIn (q .pins)) m) (isFree q (pinsIn (q .pins))) m l ≡ addRefusal (isIn ns m) (isOpen q ns) m l
-  pub drop-refusals : (m : ℕ) → dropRefusal (isThere (pinsIn (q .pins)) m) m ≡ dropRefusal (isIn ns m) m
+  pub drop-refusals : (l : List ℕ) → dropRefusal (isThere (pinsIn (q .pins))) l ≡ dropRefusal (isIn ns) l
   pub nets : q .nets ≡ nets (isIn ns)
   pub several : (m : ℕ) → In m largestNet → isIn ns m ≡ true → 2 ≤ pinCount (pinsIn (q .pins)) m
   pub read : ticketOf (bytesOf q) ≡ acceptedReading q

@@ -3,3 +3,4 @@ pub mod Edits
 pub mod Counts
 pub mod Runs
 pub mod History
+pub mod Orders

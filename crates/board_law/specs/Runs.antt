@@ -17,18 +17,26 @@
 --   boxWidth q        how many tracks have counts: the width of a box, and 0 for the other kinds
 --   Recounted low high last step old new
 --                     the list new has these counts in the place of those of the list old
-use Prim.Native.Nat.{ℕ, _+_, _%_, min, max}
+--   NetNumbers l      every number of the list is one that a net may have
+--   left l xs         the list xs, with 0 for each number that l has
+--   without q l       the problem q without the nets of a list of nets that it has, none of them twice
+--   TakenAway q l columns tracks columns′ tracks′
+--                     the problem without the nets of the list is sound, and these are its counts, if those before were the problem's
+use Prim.Native.Nat.{ℕ, _+_, _-_, _%_, min, max}
 use mathlib.Core.Path.{_≡_}
-use mathlib.Core.Bool.{Bool, cond, _&&_}
-use mathlib.Core.List.{List}
+use mathlib.Core.Bool.{Bool, true, cond, _&&_}
+use mathlib.Core.List.{List, map}
 use lib.Dec.{eqb, leb}
+use lib.ListN.{length}
 use Rattle.counting.specs.Counting.{In, some}
-use Rattle.terms.specs.Limits.{longestSide, byteValues, within}
+use Rattle.terms.specs.Limits.{longestSide, largestNet, byteValues, within}
 use Rattle.terms.specs.Kinds.{byKind}
 use Rattle.grid.specs.Legal.{entry}
 use Rattle.problem.specs.declared.Problem.{Problem}
 use Rattle.nets.specs.Tables.{firstHeld, lastHeld}
-use Rattle.board_law.specs.Counts.{countEntries}
+use Rattle.board_law.specs.Places.{listed}
+use Rattle.board_law.specs.Edits.{Sound}
+use Rattle.board_law.specs.Counts.{countEntries, Counted}
 
 abbrev pub noPlace : ℕ
 noPlace = 255
@@ -65,3 +73,28 @@ boxWidth q = byKind (q .kind) 0 0 0 (q .byte2) 0
 
 pub record Recounted (low high last step : ℕ) (old new : List ℕ) : Type 0 where
   pub each : (c : ℕ) → In c countEntries → entry new c ≡ shifted (entry old c) (inRun low high last c) step
+
+pub record NetNumbers (l : List ℕ) : Type 0 where
+  pub each : (x : ℕ) → listed l x ≡ true → In x largestNet
+
+abbrev pub left : List ℕ → List ℕ → List ℕ
+left l xs = map (λ x. cond (listed l x) 0 x) xs
+
+unfoldable pub without : Problem → List ℕ → Problem
+without q l =
+    record {
+      kind = q .kind;
+      n = q .n;
+      byte2 = q .byte2;
+      nets = q .nets - length l;
+      pins = record {
+        north = left l (q .pins .north);
+        south = left l (q .pins .south);
+        west = left l (q .pins .west);
+        east = left l (q .pins .east);
+      };
+    }
+
+pub record TakenAway (q : Problem) (l columns tracks columns′ tracks′ : List ℕ) : Type 0 where
+  pub sound : Sound (without q l)
+  pub counted : Counted q columns tracks → Counted (without q l) columns′ tracks′

@@ -1,14 +1,11 @@
 -- The tests on pins as definitions say them: whether a net is there, from the four sides; whether a place is free, from its own side; and
 -- what is free once a net stands at the first places of a list.
-use Prim.Native.Nat.{ℕ, suc, _+_, _-_, _≤_, _<_}
+use Prim.Native.Nat.{ℕ, _-_, _≤_}
 use mathlib.Core.Path.{_≡_, refl, sym, ap, _∙_}
 use mathlib.Core.Bool.{Bool, true, false, cond, not, _&&_, _||_, or-true, and-true, and-false, and-eq-true-iff, true≢false}
 use mathlib.Core.List.{List, [], _∷_, _++_}
 use native.Mathlib.Omega.{arith}
-use native.Mathlib.Numerals.{add-one}
 use lib.Dec.{eqb}
-use lib.ListN.{length, getD, take, drop}
-use lib.Seq.{drop-cons, take-suc, drop-length}
 use borrow.Author.Tests.{eq-eqb, ne-eqb, eqb-true, leb-true, le-leb}
 use Rattle.counting.specs.Counting.{In, some}
 use Rattle.counting.proofs.Counts.{some-in, some-of}
@@ -22,8 +19,7 @@ use Rattle.problem.specs.declared.Problem.{Problem}
 use Rattle.problem.specs.Problem.{pinCount, widthOf, shapeOf}
 use Rattle.problem.proofs.Pinned.{pinned, a-pin}
 use Rattle.board_law.specs.Places.{placeNumber, sideIn, placeIn, isPlace, listed}
-use Rattle.board_law.specs.Edits.{isThere, isFree, firstWrong, withNet}
-use Rattle.board_law.proofs.Accepted.{none-wrong, wrong-here, right-here}
+use Rattle.board_law.specs.Edits.{isThere, isFree, withNet}
 use Rattle.board_law.proofs.Places.{number-back, is-place, listed-none, listed-last}
 
 -- ---- whether a net is there
@@ -195,26 +191,3 @@ module _ (q : Problem) (p p′ : Pins) (m : ℕ) (l : List ℕ) (some-net : In m
       either-way y true false = refl
       either-way y false true = refl
       either-way y false false = refl
-
--- ---- the list, place by place
-
--- how many places are right, where the first i are
-abbrev pub Counting : (ℕ → Bool) → List ℕ → ℕ → Type 0
-Counting free l i = firstWrong free [] l ≡ i + firstWrong free (take i l) (drop i l)
-
-module _ (free : ℕ → Bool) (l : List ℕ) (i : ℕ) (h : i < length l) where
-  -- the place at i is free and new, or it is the first wrong one
-  pub wrong-at : Counting free l i → free (getD l i 0) && not (listed (take i l) (getD l i 0)) ≡ false → i ≡ firstWrong free [] l
-  wrong-at e wrong =
-      omega (arith, e, ap (firstWrong free (take i l)) (drop-cons l i 0 h), wrong-here free (take i l) (getD l i 0) (drop (suc i) l) wrong)
-
-  pub right-at : Counting free l i → free (getD l i 0) && not (listed (take i l) (getD l i 0)) ≡ true → Counting free l (i + 1)
-  right-at e right =
-      let more = right-here free (take i l) (getD l i 0) (drop (suc i) l) right in
-      let next : firstWrong free (take i l ++ (getD l i 0 ∷ [])) (drop (suc i) l) ≡ firstWrong free (take (i + 1) l) (drop (i + 1) l) =
-      rw (add-one i, take-suc l i 0 h) in
-      omega (arith, e, ap (firstWrong free (take i l)) (drop-cons l i 0 h), more, next)
-
-pub all-right : (free : ℕ → Bool) (l : List ℕ) (i : ℕ) → i ≡ length l → Counting free l i → i ≡ firstWrong free [] l
-all-right free l i e c =
-    omega (arith, c, ap (firstWrong free (take i l)) (ap (λ (k : ℕ). drop k l) e ∙ drop-length l), none-wrong free (take i l))

@@ -1,4 +1,4 @@
--- A net put at one place of one side, as the four lists of pins; and the four lists with a net's pins left out.
+-- A net put at one place of one side, as the four lists of pins; and the four lists with the pins of some nets left out.
 use Prim.Native.Nat.{ℕ, _+_, _-_, _<_}
 use mathlib.Core.Path.{_≡_, sym, ap, _∙_}
 use mathlib.Core.Logic.{_≢_}
@@ -15,8 +15,8 @@ use Rattle.terms.specs.Limits.{longestSide}
 use Rattle.terms.specs.Kinds.{Side, north, south, west, east}
 use Rattle.grid.specs.Legal.{entry, pinsOf}
 use Rattle.grid.proofs.Entries.{entry-at}
-use Rattle.board_law.specs.Places.{placeNumber}
-use Rattle.board_law.specs.Edits.{withoutNet}
+use Rattle.board_law.specs.Places.{placeNumber, listed}
+use Rattle.board_law.specs.Edits.{withoutNets}
 
 module _ (v x : ℕ) where
   -- at another number nothing changes
@@ -65,17 +65,14 @@ module _ (v x : ℕ) where
     put-east size i west a j = other (placeNumber west a) _ (λ q. omega arith)
     put-east size i east a j = on-side e 768 (v - 768 - 1) a size (omega arith) (omega arith) j
 
--- ---- a net taken away
+-- ---- the nets of a list taken away
 
-abbrev left-out : ℕ → ℕ → ℕ
-left-out net x = cond (eqb x net) 0 x
+abbrev LeftOut : List ℕ → List ℕ → List ℕ → Type 0
+LeftOut nets side left = (a : ℕ) → In a longestSide → entry left a ≡ cond (listed nets (entry side a)) 0 (entry side a)
 
-abbrev LeftOut : ℕ → List ℕ → List ℕ → Type 0
-LeftOut net side left = (a : ℕ) → In a longestSide → entry left a ≡ left-out net (entry side a)
-
-pub left-sides : (net : ℕ) (n s w e n′ s′ w′ e′ : List ℕ) → LeftOut net n n′ → LeftOut net s s′ → LeftOut net w w′ → LeftOut net e e′
-    → (t : Side) (a : ℕ) → In a longestSide → pinsOf n′ s′ w′ e′ t a ≡ withoutNet (pinsOf n s w e) net t a
-left-sides net n s w e n′ s′ w′ e′ f g h k north = f
-left-sides net n s w e n′ s′ w′ e′ f g h k south = g
-left-sides net n s w e n′ s′ w′ e′ f g h k west = h
-left-sides net n s w e n′ s′ w′ e′ f g h k east = k
+pub left-sides : (nets n s w e n′ s′ w′ e′ : List ℕ) → LeftOut nets n n′ → LeftOut nets s s′ → LeftOut nets w w′ → LeftOut nets e e′
+    → (t : Side) (a : ℕ) → In a longestSide → pinsOf n′ s′ w′ e′ t a ≡ withoutNets (pinsOf n s w e) nets t a
+left-sides nets n s w e n′ s′ w′ e′ f g h k north = f
+left-sides nets n s w e n′ s′ w′ e′ f g h k south = g
+left-sides nets n s w e n′ s′ w′ e′ f g h k west = h
+left-sides nets n s w e n′ s′ w′ e′ f g h k east = k

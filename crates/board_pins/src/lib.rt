@@ -21,7 +21,8 @@ ghost use Rattle.terms.specs.Kinds.{Side};
 ghost use Rattle.grid.specs.Legal.{entry, pinsOf};
 ghost use Rattle.problem.specs.Problem.{pinsIn, widthOf};
 ghost use Rattle.board_law.specs.Places.{placeNumber, placeIn};
-ghost use Rattle.board_law.specs.Edits.{isThere, isFree, firstWrong, withNet, withoutNet};
+ghost use Rattle.board_law.specs.Edits.{isThere, isFree, firstWrong, withNet, withoutNets};
+ghost use Rattle.board_law.specs.Runs.{NetNumbers};
 
 // The least number on each side but the north, whose numbers begin at 0.
 pub const SOUTH_FROM: usize = BYTE_VALUES;
@@ -152,14 +153,15 @@ pub fn place_net(q: Problem, net: u8, places: &[usize]) -> Placed
     }
 }
 
-// The pins but those of the net.
-pub fn without_net(pins: Pins, net: u8) -> Pins
-    ensures { λ r. ⌜ ((s : Side) (a : ℕ) → In a longestSide → pinsIn r s a ≡ withoutNet (pinsIn pins) net s a) ⌝ }
+// The pins but those of the nets of a list.
+pub fn without_nets(pins: Pins, nets: &[usize]) -> Pins
+    requires { ⌜ NetNumbers (now nets) ⌝ }
+    ensures { λ r. ⌜ ((s : Side) (a : ℕ) → In a longestSide → pinsIn r s a ≡ withoutNets (pinsIn pins) (now (nets .entry)) s a) ⌝ }
 {
-    let north = side_without(&pins.north, net);
-    let south = side_without(&pins.south, net);
-    let west = side_without(&pins.west, net);
-    let east = side_without(&pins.east, net);
+    let north = side_without(&pins.north, nets);
+    let south = side_without(&pins.south, nets);
+    let west = side_without(&pins.west, nets);
+    let east = side_without(&pins.east, nets);
     Pins {
         north,
         south,

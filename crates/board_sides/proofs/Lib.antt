@@ -1,3 +1,4 @@
 pub mod Padding
+pub mod InPlace
 pub mod Left
 pub mod Seen

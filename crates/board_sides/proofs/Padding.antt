@@ -14,12 +14,10 @@ use Rattle.counting.proofs.Tests.{some-same}
 use Rattle.terms.specs.Limits.{longestSide}
 use Rattle.grid.specs.Legal.{entry}
 use Rattle.grid.proofs.Entries.{entry-at}
-
-abbrev pub paddedSide : ℕ
-paddedSide = 96
+use Rattle.board_sides.specs.Limits.{paddedSide}
 
 -- two lists that agree by index
-pub same-entry : (long side : List ℕ) → ((i : ℕ) → i < longestSide → getD long i 0 ≡ getD side i 0) → (a : ℕ) → In a longestSide
+same-entry : (long side : List ℕ) → ((i : ℕ) → i < longestSide → getD long i 0 ≡ getD side i 0) → (a : ℕ) → In a longestSide
     → entry long a ≡ entry side a
 same-entry long side same a j = entry-at long a (j .0) ∙ same (a - 1) (omega arith) ∙ sym (entry-at side a (j .0))
 

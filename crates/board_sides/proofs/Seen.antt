@@ -14,7 +14,9 @@ use Rattle.counting.proofs.Tests.{some-more}
 use Rattle.terms.specs.Limits.{longestSide}
 use Rattle.nets.specs.Tables.{holdsAt, firstHeld, lastHeld}
 use Rattle.board_law.specs.Runs.{noPlace, orNoPlace, Ends}
-use Rattle.board_sides.proofs.Padding.{paddedSide, Padded, net-here, net-past, some-padded}
+use Rattle.board_law.proofs.Ends.{least-past, last-past, last-same}
+use Rattle.board_sides.specs.Limits.{paddedSide}
+use Rattle.board_sides.proofs.Padding.{Padded, net-here, net-past, some-padded}
 
 -- what the places 1 to top tell
 pub record Seen (a b : ℕ → ℕ) (m top low high : ℕ) (one two : Bool) : Type 0 where
@@ -84,39 +86,14 @@ module _ (a b : ℕ → ℕ) (m : ℕ) where
 
 -- ---- the padded lists and the sides
 
--- a test that fails past the places has the same first place
-least-past : (t : ℕ → Bool) (top : ℕ) → ((c : ℕ) → top < c → t c ≡ false) → (n : ℕ) → top ≤ n → least t n ≡ least t top
-unfolding least
-least-past t top out zero h = let e : 0 ≡ top = omega arith in ap (least t) e
-least-past t top out (suc n) h =
-    by-cases (ℕ-discrete top (suc n)) (λ e. ap (least t) (sym e))
-    (λ ne. rw (out (suc n) (omega arith), least-past t top out n (omega arith)) (kept (least t top)))
-  where
-    kept : (x : ℕ) → cond (eqb x 0) 0 x ≡ x
-    kept x = by-cases (ℕ-discrete x 0) (λ z. rw z) (λ nz. rw (ne-eqb x 0 nz))
-
-last-past : (a b : ℕ → ℕ) (m top : ℕ) → ((c : ℕ) → top < c → holdsAt a b m c ≡ false) → (n : ℕ) → top ≤ n
-    → lastHeld a b n m ≡ lastHeld a b top m
-unfolding lastHeld
-last-past a b m top out zero h = let e : 0 ≡ top = omega arith in ap (λ (n : ℕ). lastHeld a b n m) e
-last-past a b m top out (suc n) h =
-    by-cases (ℕ-discrete top (suc n)) (λ e. ap (λ (n : ℕ). lastHeld a b n m) (sym e))
-    (λ ne. rw (out (suc n) (omega arith)) (last-past a b m top out n (omega arith)))
-
-last-same : (a b a′ b′ : ℕ → ℕ) (m n : ℕ) → ((c : ℕ) → In c n → holdsAt a b m c ≡ holdsAt a′ b′ m c)
-    → lastHeld a b n m ≡ lastHeld a′ b′ n m
-unfolding lastHeld
-last-same a b a′ b′ m zero e = refl
-last-same a b a′ b′ m (suc n) e = rw (e (suc n) (omega arith), last-same a b a′ b′ m n (λ c i. e c (omega arith)))
-
 module _ (a b a′ b′ : ℕ → ℕ) (m low high : ℕ) (one two : Bool) where
   pub seen-all : 1 ≤ m → Padded a a′ → Padded b b′ → Seen a′ b′ m paddedSide low high one two → Ends a b m low high one two
   seen-all net p q s = record {
     on-one = s .on-one ∙ some-padded m net p;
     on-two = s .on-two ∙ some-padded m net q;
-    first = s .first ∙ ap orNoPlace (least-past (holdsAt a′ b′ m) longestSide out paddedSide (omega arith)
+    first = s .first ∙ ap orNoPlace (sym (least-past (holdsAt a′ b′ m) longestSide paddedSide (omega arith) out)
         ∙ least-same (holdsAt a′ b′ m) (holdsAt a b m) longestSide same);
-    last = s .last ∙ last-past a′ b′ m longestSide out paddedSide (omega arith) ∙ last-same a′ b′ a b m longestSide same;
+    last = s .last ∙ sym (last-past a′ b′ longestSide paddedSide m (omega arith) out) ∙ last-same a′ b′ a b m longestSide same;
   }
     where
       out : (c : ℕ) → longestSide < c → holdsAt a′ b′ m c ≡ false

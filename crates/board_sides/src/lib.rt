@@ -1,4 +1,4 @@
-// One side of a board, or two across from each other, and a net: where it has pins, and the side without them. (For our own crates.)
+// One side of a board, or two across from each other: where a net has pins, and the side without the nets of a list. (For our own crates.)
 use nets::choose;
 use terms::LONGEST_SIDE;
 use terms::either;
@@ -8,11 +8,13 @@ ghost use mathlib.Core.Path.{_≡_};
 ghost use mathlib.Core.Bool.{cond};
 ghost use Prim.Native.Nat.{ℕ, _≤_, _<_};
 ghost use lib.Dec.{eqb};
-ghost use lib.ListN.{getD};
+ghost use lib.ListN.{length, getD};
 ghost use Rattle.counting.specs.Counting.{In, some};
 ghost use Rattle.terms.specs.Limits.{longestSide};
 ghost use Rattle.grid.specs.Legal.{entry};
-ghost use Rattle.board_law.specs.Runs.{Ends};
+ghost use Rattle.board_law.specs.Places.{listed};
+ghost use Rattle.board_law.specs.Runs.{Ends, NetNumbers};
+ghost use Rattle.board_sides.specs.Limits.{paddedSide};
 
 // Six times sixteen: the compiler treats sixteen places at once, and where some are left over each by itself. A net is never 0, so that
 // what stands past a side's places is no pin of it.
@@ -70,18 +72,33 @@ pub fn side_holds(side: &[u8; LONGEST_SIDE], net: u8) -> bool
     found
 }
 
-pub fn side_without(side: &[u8; LONGEST_SIDE], net: u8) -> [u8; LONGEST_SIDE]
-    ensures { λ r. ⌜ ((a : ℕ) → In a longestSide
-        → entry r a ≡ cond (eqb (entry (now (side .entry)) a) net) 0 (entry (now (side .entry)) a)) ⌝ }
+// Takes a net away from a padded side.
+fn clear(long: &mut [u8; PADDED_SIDE], net: u8)
+    requires { ⌜ length (now long) ≡ paddedSide ⌝ }
+    ensures cleared { λ r. ⌜ ((i : ℕ) → i < longestSide → getD (now (long .exit)) i 0
+        ≡ cond (eqb (getD (now (long .entry)) i 0) net) 0 (getD (now (long .entry)) i 0)) ⌝ }
+    ensures size { λ r. ⌜ length (now (long .exit)) ≡ paddedSide ⌝ }
 {
-    let long = padded(side);
-    let mut left = [0u8; PADDED_SIDE];
     let mut i: usize = 0;
     while i < PADDED_SIDE {
-        left[i] = choose(long[i] == net, 0, long[i]);
+        long[i] = choose(long[i] == net, 0, long[i]);
         i += 1;
     }
-    cut(&left)
+}
+
+// The side without the nets of a list.
+pub fn side_without<'a, 'b>(side: &'a [u8; LONGEST_SIDE], nets: &'b [usize]) -> [u8; LONGEST_SIDE]
+    requires { ⌜ NetNumbers (now nets) ⌝ }
+    ensures { λ r. ⌜ ((a : ℕ) → In a longestSide → entry r a
+        ≡ cond (listed (now (nets .entry)) (entry (now (side .entry)) a)) 0 (entry (now (side .entry)) a)) ⌝ }
+{
+    let mut long = padded(side);
+    let mut k: usize = 0;
+    while k < nets.len() {
+        clear(&mut long, nets[k] as u8);
+        k += 1;
+    }
+    cut(&long)
 }
 
 // Where the net stands on two sides across from each other.

@@ -7,9 +7,12 @@
 //   2   a net is dropped from the full board, and added again at its places
 //   3   the board's ticket is surveyed, which was written before the rounds
 //   4   a net is dropped from the full board, and across, up and floor of the board that is left are read
+//   5   all nets are dropped from the full board by one list
+//   6   all nets are dropped from the full board one after the other
 //
-// The nets are 1 and 91 in turn: their spans are the longest, all 90 columns and all 90 tracks must pass each. It prints one line, a
-// number that depends on what the last round made, so that the compiler leaves nothing out.
+// The nets are 1 and 91 in turn: their spans are the longest, all 90 columns and all 90 tracks must pass each; modes 5 and 6 begin with
+// them, and go on in rising order. It prints one line, a number that depends on what the last round made, so that the compiler leaves
+// nothing out.
 use board::Board;
 use board::Edited;
 use board_pins::EAST_FROM;
@@ -34,6 +37,10 @@ const DROPS_AND_ADDS: u8 = 2;
 const SURVEYS: u8 = 3;
 
 const DROPS_AND_READS: u8 = 4;
+
+const LISTS: u8 = 5;
+
+const ALL_SINGLY: u8 = 6;
 
 fn add_pair(board: Board, net: usize, from: usize, to: usize) -> Edited {
     let places = [from, to];
@@ -80,12 +87,17 @@ fn net_of(round: usize) -> usize
     1 + Board::LONGEST_SIDE * (round % 2)
 }
 
+fn drop_one(board: Board, net: usize) -> Edited {
+    let nets = [net];
+    board.drop(&nets)
+}
+
 // The board of the last round.
 fn drops(board: Board, rounds: usize) -> Board {
     let mut last = board;
     let mut round: usize = 0;
     while round < rounds {
-        let r = board.drop(net_of(round));
+        let r = drop_one(board, net_of(round));
         let after = r.board;
         last = after;
         round += 1;
@@ -96,7 +108,7 @@ fn drops(board: Board, rounds: usize) -> Board {
 fn drop_and_add(board: Board, net: usize) -> Edited
     requires { ⌜ In net largestNet ⌝ }
 {
-    let r = board.drop(net);
+    let r = drop_one(board, net);
     let without = r.board;
     add(without, net)
 }
@@ -109,6 +121,58 @@ fn drops_and_adds(board: Board, rounds: usize) -> Board {
         let r = drop_and_add(board, net_of(round));
         let after = r.board;
         last = after;
+        round += 1;
+    }
+    last
+}
+
+// All nets in rising order from this one on, and then those before it.
+fn nets_from(first: usize) -> [usize; Board::LARGEST_NET]
+    requires { ⌜ In first largestNet ⌝ }
+{
+    let mut nets = [0usize; Board::LARGEST_NET];
+    let mut i: usize = 0;
+    while i < Board::LARGEST_NET {
+        nets[i] = 1 + (first - 1 + i) % Board::LARGEST_NET;
+        i += 1;
+    }
+    nets
+}
+
+// The board of the last round.
+fn lists(board: Board, rounds: usize) -> Board {
+    let mut last = board;
+    let mut round: usize = 0;
+    while round < rounds {
+        let nets = nets_from(net_of(round));
+        let r = board.drop(&nets);
+        let after = r.board;
+        last = after;
+        round += 1;
+    }
+    last
+}
+
+// The board without these nets, which are dropped one after the other.
+fn without_each(board: Board, nets: &[usize]) -> Board {
+    let mut left = board;
+    let mut i: usize = 0;
+    while i < nets.len() {
+        let r = drop_one(left, nets[i]);
+        let after = r.board;
+        left = after;
+        i += 1;
+    }
+    left
+}
+
+// The board of the last round.
+fn all_singly(board: Board, rounds: usize) -> Board {
+    let mut last = board;
+    let mut round: usize = 0;
+    while round < rounds {
+        let nets = nets_from(net_of(round));
+        last = without_each(board, &nets);
         round += 1;
     }
     last
@@ -150,7 +214,7 @@ fn drops_and_reads(board: Board, rounds: usize) -> Read {
     let mut figures = 0;
     let mut round: usize = 0;
     while round < rounds {
-        let r = board.drop(net_of(round));
+        let r = drop_one(board, net_of(round));
         let after = r.board;
         figures = larger(figures, figures_of(after));
         last = after;
@@ -174,6 +238,14 @@ fn done(mode: u8, board: Board, rounds: usize) -> Read {
             figures: 0,
         },
         DROPS_AND_READS => drops_and_reads(board, rounds),
+        LISTS => Read {
+            board: lists(board, rounds),
+            figures: 0,
+        },
+        ALL_SINGLY => Read {
+            board: all_singly(board, rounds),
+            figures: 0,
+        },
         _ => Read { board, figures: 0 },
     }
 }

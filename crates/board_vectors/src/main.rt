@@ -4,7 +4,7 @@
 //
 //   1   start: the kind, n, byte 2
 //   2   add: the net, then its places (256 × side, 0 north, 1 south, 2 west, 3 east, + the place on it from 1)
-//   3   drop: the net
+//   3   drop: the nets, none or more
 //   4   the board's ticket is written into a buffer of so many bytes, at most 512
 //
 // The run begins with a fresh row, n 1, h 1; a start that is refused leaves one too. Numbers past those that a code takes are passed over.
@@ -12,11 +12,11 @@
 // or with more than 512, and one with a buffer of more than 512 bytes.
 //
 // A line has numbers in base ten, one space between. For codes 1 to 3: the number and the place of the call's refusal, 0 and 0 if there is
-// none; then of the board after the call: 1 or 0, whether the net that has the record's first number is there; how many nets there are;
-// across; up; floor; the ticket's length; a hash; and a second one, of the stored figures. For code 4: number, place, length and a hash.
-// The hash is that of a buffer of 512 bytes, each 170 before the ticket was written to its front: h is 0 and becomes (31 h + b + 1) mod
-// 1,000,003 at each byte b. With code 4 only the first bytes of this buffer, as many as the record says, are lent to the call. The second
-// is the same of 196 bytes: the count at columns 0, 1, .. 97 and then the count at tracks 0, 1, .. 97.
+// none; then of the board after the call: 1 or 0, whether the net that has the record's first number is there, 0 if the record has no
+// numbers; how many nets there are; across; up; floor; the ticket's length; a hash; and a second one, of the stored figures. For code 4:
+// number, place, length and a hash. The hash is that of a buffer of 512 bytes, each 170 before the ticket was written to its front: h is 0
+// and becomes (31 h + b + 1) mod 1,000,003 at each byte b. With code 4 only the first bytes of this buffer, as many as the record says, are
+// lent to the call. The second is the same of 196 bytes: the count at columns 0, 1, .. 97 and then the count at tracks 0, 1, .. 97.
 use board::Board;
 use board::Edited;
 use libc::STDIN_FILENO;
@@ -25,10 +25,14 @@ use records::field;
 use records::refusal_fields;
 use terms::BYTE_VALUES;
 use terms::ROW;
+use terms::larger;
 use terms::wide;
 ghost use Prim.Native.Nat.{_+_, _≤_};
 ghost use mathlib.Core.Path.{_≡_};
 ghost use lib.ListN.{length};
+
+// No code: the run ends.
+const NONE: u8 = 0;
 
 const START: u8 = 1;
 
@@ -71,11 +75,12 @@ struct Step {
     board: Board,
 }
 
-// How many numbers a code takes: more than a record may have where it is no code.
+// How many numbers a code takes at least: more than a record may have where it is no code.
 fn least_count(code: u8) -> usize {
     match code {
         START => 3,
-        ADD | DROP | WRITE => 1,
+        ADD | WRITE => 1,
+        DROP => 0,
         _ => MOST_NUMBERS + 1,
     }
 }
@@ -89,13 +94,13 @@ fn number_size(code: u8) -> usize
     WIDE_NUMBER
 }
 
-// The record at `at`; where it ends the run, one without numbers.
+// The record at `at`; where it ends the run, one of no code and without numbers.
 fn record_at(s: &[u8], at: usize) -> Record
     requires { ⌜ at ≤ length (now s) ⌝ }
     ensures { λ r. ⌜ (r .from ≤ r .end) × (r .end ≤ length (now (s .entry))) × (r .count ≤ 512) × (2 ≤ r .size) ⌝ }
 {
     let none = Record {
-        code: 0,
+        code: NONE,
         size: NARROW_NUMBER,
         count: 0,
         from: at,
@@ -155,17 +160,19 @@ fn numbers_of(body: &[u8], size: usize) -> [usize; MOST_NUMBERS]
     numbers
 }
 
-// Starts a board, adds a net or drops one.
+// Starts a board, adds a net or drops nets.
 fn edit(board: Board, code: u8, numbers: &[usize], count: usize) -> Edited
-    requires { ⌜ (length (now numbers) ≡ 512) × (1 ≤ count) × (count ≤ 512) ⌝ }
+    requires { ⌜ (length (now numbers) ≡ 512) × (count ≤ 512) ⌝ }
 {
     if code == START {
         return Board::start(numbers[0], numbers[1], numbers[2]);
     }
-    if code == ADD {
-        return board.add(numbers[0], &numbers[1..count]);
+    if code == DROP {
+        return board.drop(&numbers[0..count]);
     }
-    board.drop(numbers[0])
+    // the record of an add has one number or more, which `count` does not say here
+    let end = larger(count, 1);
+    board.add(numbers[0], &numbers[1..end])
 }
 
 // Writes the board's ticket into the first `size` bytes of the buffer, which is stained before.
@@ -188,7 +195,7 @@ fn counts_of(board: Board) -> [u8; 2 * COUNTS] {
     counts
 }
 
-// The line of a call that starts or changes a board.
+// The line of a call that starts or changes a board; the first number of its record is `net`, 0 if it has none.
 fn show(r: Edited, net: usize, buffer: &mut [u8]) {
     let board = r.board;
     refusal_fields(r.refusal);
@@ -222,8 +229,7 @@ fn one(s: &[u8], at: usize, board: Board, buffer: &mut [u8]) -> Step
     let r = record_at(s, at);
     let from = r.from;
     let end = r.end;
-    let count = r.count;
-    if count == 0 {
+    if r.code == NONE {
         return Step { next: at, board };
     }
     let numbers = numbers_of(&s[from..end], r.size);
@@ -235,7 +241,7 @@ fn one(s: &[u8], at: usize, board: Board, buffer: &mut [u8]) -> Step
         show_written(board, first, buffer);
         return Step { next: end, board };
     }
-    let edited = edit(board, r.code, &numbers, count);
+    let edited = edit(board, r.code, &numbers, r.count);
     show(edited, first, buffer);
     let after = edited.board;
     Step {

@@ -1,6 +1,6 @@
-//! A board that is edited: nets are added and dropped whole. It is kept as the list of the nets added and not since dropped, each with
-//! the places that it was added at; its ticket is made of these, and its figures are those of a survey of that ticket. What each column
-//! and each track must pass is summed over the nets, each by its own places.
+//! A board that is edited: nets are added one by one, and dropped whole by lists. It is kept as the list of the nets added and not since
+//! dropped, each with the places that it was added at; its ticket is made of these, and its figures are those of a survey of that ticket.
+//! What each column and each track must pass is summed over the nets, each by its own places.
 
 use crate::tickets::{encode, slots, Places};
 use crate::{no_side, rules, survey, written, Refusal, BOX, CHANNEL, EAST, LARGEST_NET, LONGEST_SIDE, NORTH, ROW, SOUTH, WEST};
@@ -99,12 +99,16 @@ impl Board {
         Ok(())
     }
 
-    pub fn drop(&mut self, net: u64) -> Result<(), Refusal> {
-        let net = net_of(net)?;
-        match self.nets.remove(&net) {
-            Some(_) => Ok(()),
-            None => Err(Refusal(22, net as usize)),
+    /// Takes all of these nets away, or none. A number that is no net's is absent like any other.
+    pub fn drop(&mut self, nets: &[u64]) -> Result<(), Refusal> {
+        if let Some(absent) = nets.iter().find(|net| !self.has(**net)) {
+            return Err(Refusal(22, *absent as usize));
         }
+        if let Some(i) = (0..nets.len()).find(|i| nets[..*i].contains(&nets[*i])) {
+            return Err(Refusal(23, i));
+        }
+        self.nets.retain(|net, _| !nets.contains(&(*net as u64)));
+        Ok(())
     }
 
     /// Kind, n and byte 2.

@@ -5,17 +5,17 @@
 //!
 //! 1. start: kind, n, byte 2;
 //! 2. add: the net, then the places;
-//! 3. drop: the net;
+//! 3. drop: the nets, none or more;
 //! 4. the board's ticket is written into a buffer of so many bytes, at most 512.
 //!
 //! The run begins with a fresh row board, n 1, h 1. Numbers past those that a code takes are passed over. A record of another code,
 //! one cut short, with fewer numbers than its code takes or with more than 512, or a buffer of more than 512 bytes ends the run.
 //!
 //! A line has, for codes 1 to 3, the refusal's number and place, 0 and 0 if there is none; then of the board after the call: 1 or 0,
-//! whether the net with the record's first number is there; the number of nets; across; up; floor; the ticket's length; the hash of a
-//! stained buffer of 512 bytes that the ticket was written to; and the hash of the stored figures, 196 bytes: the count at columns 0,
-//! 1, .. 97 and then the count at tracks 0, 1, .. 97. For code 4: number, place and length, and the hash of the whole stained buffer of
-//! 512 bytes, only the first of which were lent.
+//! whether the net with the record's first number is there, 0 if the record has no numbers; the number of nets; across; up; floor; the
+//! ticket's length; the hash of a stained buffer of 512 bytes that the ticket was written to; and the hash of the stored figures, 196
+//! bytes: the count at columns 0, 1, .. 97 and then the count at tracks 0, 1, .. 97. For code 4: number, place and length, and the hash
+//! of the whole stained buffer of 512 bytes, only the first of which were lent.
 
 use crate::board::{place_number, Board};
 use crate::read::read;
@@ -33,12 +33,17 @@ pub const HASHED_COUNTS: usize = 98;
 pub enum Call {
     Start(u64, u64, u64),
     Add(u64, Vec<u64>),
-    Drop(u64),
+    Drop(Vec<u64>),
     /// The ticket is written into a buffer of so many bytes.
     Write(usize),
 }
 
 impl Call {
+    /// The drop of one net.
+    pub fn drop_one(net: u64) -> Self {
+        Call::Drop(vec![net])
+    }
+
     fn code(&self) -> u8 {
         match self {
             Call::Start(..) => 1,
@@ -52,7 +57,7 @@ impl Call {
         match self {
             Call::Start(kind, n, byte2) => vec![*kind, *n, *byte2],
             Call::Add(net, places) => [&[*net], &places[..]].concat(),
-            Call::Drop(net) => vec![*net],
+            Call::Drop(nets) => nets.clone(),
             Call::Write(size) => vec![*size as u64],
         }
     }
@@ -91,7 +96,7 @@ fn cut(bytes: &[u8]) -> Option<(Call, &[u8])> {
     let call = match (head[0] & 127, &numbers[..]) {
         (1, [kind, n, byte2, ..]) => Call::Start(*kind, *n, *byte2),
         (2, [net, places @ ..]) => Call::Add(*net, places.to_vec()),
-        (3, [net, ..]) => Call::Drop(*net),
+        (3, nets) => Call::Drop(nets.to_vec()),
         (4, [size, ..]) if *size <= RECORD_BUFFER as u64 => Call::Write(*size as usize),
         _ => return None,
     };
@@ -107,7 +112,7 @@ fn make(board: &mut Board, call: &Call) -> [u64; 2] {
             outcome
         }
         Call::Add(net, places) => board.add(*net, places),
-        Call::Drop(net) => board.drop(*net),
+        Call::Drop(nets) => board.drop(nets),
         Call::Write(_) => unreachable!("no edit"),
     };
     outcome.map_or_else(|refusal| [refusal.0 as u64, refusal.1 as u64], |_| [0, 0])
@@ -130,7 +135,7 @@ pub fn line(board: &mut Board, call: &Call) -> String {
         return row(&[number, place, length, hash(0, &buffer)]);
     }
     let [number, place] = make(board, call);
-    let there = board.has(call.numbers()[0]) as u64;
+    let there = call.numbers().first().is_some_and(|net| board.has(*net)) as u64;
     let [across, up, floor] = board.figures();
     let [_, _, length] = board.write_ticket(&mut buffer);
     let counts = hash_of_counts(board);
@@ -208,6 +213,24 @@ fn present_net(r: &mut Numbers, board: &Board) -> Option<u64> {
     board.nets().keys().nth(r.below(board.nets().len().max(1))).map(|net| *net as u64)
 }
 
+/// The nets that are there, in any order.
+fn present_nets(r: &mut Numbers, board: &Board) -> Vec<u64> {
+    let mut out: Vec<u64> = board.nets().keys().map(|net| *net as u64).collect();
+    r.shuffle(&mut out);
+    out
+}
+
+/// A number that no net of the board has; the low bytes of some are those of one that is there.
+fn absent_number(r: &mut Numbers, board: &Board) -> u64 {
+    match absent_net(r, board) {
+        Some(net) if r.below(2) == 0 => net,
+        _ => {
+            let there = present_net(r, board).unwrap_or(1);
+            no_net(r, there)
+        }
+    }
+}
+
 /// Where a place stands in the order of the columns, or of the tracks: the side before the first comes first, and the one past the last
 /// comes last.
 fn order_of(place: u64, tracks: bool) -> u64 {
@@ -278,22 +301,55 @@ fn bad_list(r: &mut Numbers, board: &Board) -> Vec<u64> {
     list
 }
 
+/// A drop that is accepted, if there is a net: of one, of several, or now and then, more seldom where there are many, of all.
+fn good_drop(r: &mut Numbers, board: &Board) -> Option<Call> {
+    let mut nets = present_nets(r, board);
+    if nets.is_empty() {
+        return None;
+    }
+    let size = match r.below(5) {
+        0 => 2 + r.below(4),
+        1 if r.below(6 + nets.len()) == 0 => nets.len(),
+        _ => 1,
+    };
+    nets.truncate(size);
+    Some(Call::Drop(nets))
+}
+
+/// A drop that is mostly refused: a few nets that are there, or all of them; and anywhere in the list some of these again, or numbers that
+/// are absent, or both. One without either is accepted, an empty one too.
+fn odd_drop(r: &mut Numbers, board: &Board) -> Call {
+    let mut list = present_nets(r, board);
+    if r.below(25) > 0 {
+        list.truncate(r.below(5));
+    }
+    let (repeats, absent) = r.pick(&[(0, 0), (1, 0), (1, 0), (2, 0), (0, 1), (0, 2), (1, 1), (2, 1)]);
+    for _ in 0..if list.is_empty() { 0 } else { repeats } {
+        let again = r.pick(&list);
+        list.insert(r.below(list.len() + 1), again);
+    }
+    for _ in 0..absent {
+        let number = absent_number(r, board);
+        list.insert(r.below(list.len() + 1), number);
+    }
+    Call::Drop(list)
+}
+
 /// Mostly refused, for any of the causes, or the ticket into a buffer of any length.
 pub fn odd_call(r: &mut Numbers, board: &Board) -> Call {
     let net = absent_net(r, board).or_else(|| present_net(r, board)).expect("a net is there or not");
     let list = bad_list(r, board);
     let short = |r: &mut Numbers| list[..r.below(2)].to_vec();
-    match r.below(12) {
+    match r.below(13) {
         0 => Call::Add(no_net(r, net), if r.below(2) == 0 { short(r) } else { list }),
-        1 => Call::Drop(no_net(r, net)),
-        2 => Call::Drop(net),
-        3 => Call::Add(present_net(r, board).unwrap_or(net), if r.below(2) == 0 { short(r) } else { list }),
-        4 => match (good_add(r, board), present_net(r, board)) {
+        1..=3 => odd_drop(r, board),
+        4 => Call::Add(present_net(r, board).unwrap_or(net), if r.below(2) == 0 { short(r) } else { list }),
+        5 => match (good_add(r, board), present_net(r, board)) {
             (Some(Call::Add(_, list)), Some(there)) => Call::Add(there, list),
             _ => Call::Add(net, list),
         },
-        5 => Call::Add(net, short(r)),
-        6 | 7 => {
+        6 => Call::Add(net, short(r)),
+        7 | 8 => {
             let (length, any) = (board.ticket().len(), r.below(RECORD_BUFFER + 1));
             Call::Write(r.pick(&[0, length - 1, length, length + 1, RECORD_BUFFER, any]))
         }
@@ -321,7 +377,7 @@ pub fn edits(r: &mut Numbers, board: &mut Board, calls: usize, odd_in: usize) ->
         }
         let adds = r.below(3) > draining as usize;
         let edit = if adds { good_add(r, board) } else { None };
-        let edit = edit.or_else(|| present_net(r, board).map(Call::Drop));
+        let edit = edit.or_else(|| good_drop(r, board));
         let call = edit.filter(|_| r.below(odd_in) > 0).unwrap_or_else(|| odd_call(r, board));
         if !matches!(call, Call::Write(_)) {
             make(board, &call);
@@ -331,16 +387,43 @@ pub fn edits(r: &mut Numbers, board: &mut Board, calls: usize, odd_in: usize) ->
     out
 }
 
-/// A start of this kind and shape, and so many edits; of a board that is first filled, where that is asked for.
-pub fn history(r: &mut Numbers, (kind, n, byte2): (u8, usize, usize), filled: bool, calls: usize, odd_in: usize) -> Vec<Call> {
-    let start = Call::Start(kind as u64, n as u64, byte2 as u64);
+/// The start of a board of this kind and shape, and the board.
+fn start((kind, n, byte2): (u8, usize, usize)) -> (Vec<Call>, Board) {
+    let call = Call::Start(kind as u64, n as u64, byte2 as u64);
     let mut board = Board::fresh();
-    make(&mut board, &start);
-    let mut out = vec![start];
+    make(&mut board, &call);
+    (vec![call], board)
+}
+
+/// A start of this kind and shape, and so many edits; of a board that is first filled, where that is asked for.
+pub fn history(r: &mut Numbers, shape: (u8, usize, usize), filled: bool, calls: usize, odd_in: usize) -> Vec<Call> {
+    let (mut out, mut board) = start(shape);
     if filled {
         out.extend(fill(r, &mut board));
     }
     out.extend(edits(r, &mut board, calls, odd_in));
+    out
+}
+
+/// A start of this kind and shape, and so many rounds: the board is filled; so many odd lists are dropped; and one of any of its nets, in
+/// the last round of all.
+pub fn dropped_lists(r: &mut Numbers, shape: (u8, usize, usize), rounds: usize, odd: usize) -> Vec<Call> {
+    let (mut out, mut board) = start(shape);
+    for round in 1..=rounds {
+        out.extend(fill(r, &mut board));
+        for _ in 0..odd {
+            let call = odd_drop(r, &board);
+            make(&mut board, &call);
+            out.push(call);
+        }
+        let mut nets = present_nets(r, &board);
+        if round < rounds {
+            nets.truncate(r.below(nets.len() + 1));
+        }
+        let call = Call::Drop(nets);
+        make(&mut board, &call);
+        out.push(call);
+    }
     out
 }
 

@@ -1,6 +1,7 @@
-//! Boards that are edited: every refusal worked by hand from the documents; counts at columns and tracks worked by hand; and the list of
-//! nets against a second board, an array of places with counts that are kept, over random histories and over every short list on small
-//! boards. After every call both boards' counts are held against the definition in the request's own words.
+//! Boards that are edited: every refusal worked by hand from the documents; counts at columns and tracks worked by hand; lists of nets
+//! against the same nets dropped singly; and the board against a second one, an array of places with counts that are kept, over random
+//! histories and over every short list of places and of nets on small boards. After every call both boards' counts are held against the
+//! definition in the request's own words.
 
 use slow::board::{place_number, place_numbers, Board};
 use slow::edits::{self, line, of_ticket, random_shape, record, run, Call, HASHED_COUNTS, MOST_NUMBERS};
@@ -44,9 +45,10 @@ fn add_refused(board: &Board, net: u64, places: &[u64], number: u8, place: usize
     assert_eq!((counts(&after), &after), (counts(board), board));
 }
 
-fn drop_refused(board: &Board, net: u64, number: u8, place: usize) {
+/// So does a drop; the place may be any number.
+fn drop_refused(board: &Board, nets: &[u64], number: u8, place: u64) {
     let mut after = board.clone();
-    assert_eq!(after.drop(net), Err(Refusal(number, place)), "{net}");
+    assert_eq!(after.drop(nets), Err(Refusal(number, place as usize)), "{nets:?}");
     assert_eq!((counts(&after), &after), (counts(board), board));
 }
 
@@ -95,7 +97,6 @@ fn an_impossible_net_number_comes_first() {
         for list in [&[][..], &[1], &[0, 0], &[2, 513], &[1, 3]] {
             add_refused(&board, net, list, 7, 0);
         }
-        drop_refused(&board, net, 7, 0);
         assert!(!board.has(net));
     }
 }
@@ -157,17 +158,207 @@ fn filled_places_and_repeats() {
 }
 
 #[test]
-fn drops() {
+fn drops_of_one_net() {
     let mut board = small_box();
-    drop_refused(&board, 6, 22, 6);
-    drop_refused(&board, 180, 22, 180);
-    assert_eq!(board.drop(5), Ok(()));
+    drop_refused(&board, &[6], 22, 6);
+    drop_refused(&board, &[180], 22, 180);
+    assert_eq!(board.drop(&[5]), Ok(()));
     assert_eq!(board, started(BOX, 3, 2));
-    drop_refused(&board, 5, 22, 5);
+    drop_refused(&board, &[5], 22, 5);
     // Again, elsewhere; its former places are free.
     assert_eq!(board.add(5, &[1, 3]), Ok(()));
     assert_eq!(board.add(6, &[2, 513]), Ok(()));
     assert_eq!(board.ticket(), [3, 3, 2, 5, 7, 5, 6, 5, 1, 6]);
+}
+
+/// The box 3 long and 2 wide with two nets more: 180 at north 1 and north 3, and 1 at south 1 and east 2.
+fn three_nets() -> Board {
+    let mut board = small_box();
+    assert_eq!((board.add(180, &[3, 1]), board.add(1, &[257, 770])), (Ok(()), Ok(())));
+    board
+}
+
+#[test]
+fn an_empty_list_changes_nothing() {
+    for board in [Board::fresh(), small_box(), three_nets(), started(CHANNEL, 90, 8)] {
+        let mut after = board.clone();
+        assert_eq!(after.drop(&[]), Ok(()));
+        assert_eq!((counts(&after), &after), (counts(&board), &board));
+    }
+}
+
+/// A number outside 1 to 180 is absent like a net that is not there; the low bytes of some are those of net 5.
+#[test]
+fn the_first_absent_net_comes_before_every_repeat() {
+    let board = three_nets();
+    let wide = [(1 << 16) - 1, 1 << 16, (1 << 16) + 5, (1 << 32) + 5, (1 << 63) + 5, MAX - 250, MAX];
+    for x in [0, 2, 6, 179, 181, 182, 255, 256, 256 + 5].into_iter().chain(wide) {
+        let lists: [&[u64]; 14] = [
+            &[x],
+            &[x, 5, 180, 1],
+            &[5, x, 180, 1],
+            &[5, 180, x, 1],
+            &[5, 180, 1, x],
+            &[x, x],
+            &[5, x, x],
+            &[x, 5, 5],
+            &[5, x, 5],
+            &[5, 5, x],
+            &[5, 1, 5, 1, 180, x],
+            &[1, 1, 1, x, 1, 183],
+            // Another absent one after it, smaller or larger.
+            &[180, x, 3, 5],
+            &[x, 0, 184, MAX],
+        ];
+        lists.iter().for_each(|list| drop_refused(&board, list, 22, x));
+        drop_refused(&board, &[5, 3, x, 1], 22, 3);
+        drop_refused(&board, &[185, x], 22, 185);
+        drop_refused(&started(BOX, 3, 2), &[x, 5], 22, x);
+    }
+    drop_refused(&started(BOX, 3, 2), &[5, 5], 22, 5);
+    drop_refused(&Board::fresh(), &[180, 1], 22, 180);
+}
+
+#[test]
+fn the_first_repeat() {
+    let board = three_nets();
+    let lists: [(&[u64], u64); 12] = [
+        (&[5, 5], 1),
+        (&[180, 180], 1),
+        (&[1, 1, 1], 1),
+        (&[5, 5, 1, 180], 1),
+        (&[5, 1, 5], 2),
+        (&[5, 1, 1], 2),
+        (&[5, 1, 5, 1], 2),
+        (&[5, 1, 1, 5], 2),
+        (&[180, 5, 1, 1], 3),
+        (&[180, 5, 1, 180], 3),
+        (&[1, 5, 180, 5, 1], 3),
+        (&[1, 5, 180, 1, 5, 180, 1, 5, 180], 3),
+    ];
+    lists.iter().for_each(|(list, place)| drop_refused(&board, list, 23, *place));
+    for size in [2, 180, 181, 182, 256, 257, 512, 1000] {
+        drop_refused(&board, &vec![1; size], 23, 1);
+        drop_refused(&board, &[&[180, 5][..], &vec![1; size]].concat(), 23, 3);
+        drop_refused(&board, &[&vec![1; size][..], &[2]].concat(), 22, 2);
+    }
+}
+
+/// What is left is what was added but for the list's nets, and the places are free.
+#[test]
+fn lists_of_the_box_with_three_nets() {
+    let nets: [(u64, &[u64]); 3] = [(5, &[513, 2]), (180, &[3, 1]), (1, &[257, 770])];
+    for list in [&[5][..], &[180], &[1], &[5, 180], &[180, 5], &[5, 1], &[1, 5], &[180, 1], &[1, 180], &[5, 180, 1], &[1, 180, 5]] {
+        let (mut board, mut left) = (three_nets(), started(BOX, 3, 2));
+        assert_eq!(board.drop(list), Ok(()));
+        for (net, places) in nets {
+            assert!(list.contains(&net) || left.add(net, places).is_ok());
+        }
+        assert_eq!((counts(&board), &board), (counts(&left), &left), "{list:?}");
+        drop_refused(&board, list, 22, list[0]);
+        for (net, places) in nets {
+            assert!(!list.contains(&net) || board.add(net, places).is_ok());
+        }
+        assert_eq!((counts(&board), &board), (counts(&three_nets()), &three_nets()));
+    }
+    let mut board = three_nets();
+    counts_are(&board, &[3, 3, 2], &[2, 3]);
+    assert_eq!(board.drop(&[1, 5]), Ok(()));
+    counts_are(&board, &[1, 1, 1], &[0, 1]);
+    assert_eq!((board.ticket(), board.figures()), (vec![3, 3, 2, 1, 5, 180, 180], [1, 1, 2]));
+    assert_eq!(board.drop(&[180]), Ok(()));
+    assert_eq!(board, started(BOX, 3, 2));
+}
+
+/// The box 90 long and 90 wide with 180 nets.
+fn full_box() -> Board {
+    let mut board = Board::fresh();
+    of_ticket(&hardest::ticket(LONGEST_SIDE, LONGEST_SIDE)).iter().for_each(|call| drop(line(&mut board, call)));
+    board
+}
+
+fn shuffled(r: &mut Numbers, list: &[u64]) -> Vec<u64> {
+    let mut out = list.to_vec();
+    r.shuffle(&mut out);
+    out
+}
+
+#[test]
+fn lists_of_the_full_box() {
+    let (board, r) = (full_box(), &mut Numbers::new(107));
+    let rising: Vec<u64> = (1..=180).collect();
+    let falling: Vec<u64> = (1..=180).rev().collect();
+    for list in [rising.clone(), falling, shuffled(r, &rising), shuffled(r, &rising)] {
+        let mut after = board.clone();
+        assert_eq!((after.drop(&list), &after), (Ok(()), &started(BOX, 90, 90)));
+        counts_are(&after, &[0; 90], &[0; 90]);
+        // Longer than any list of different nets: one of them again, or an absent one, anywhere.
+        for at in [0, 1, 90, 179, 180] {
+            let with = |x: u64| [&list[..at], &[x], &list[at..]].concat();
+            drop_refused(&board, &with(list[0]), 23, at.max(1) as u64);
+            drop_refused(&board, &with(list[179]), 23, 180);
+            [0, 181, 256 + 1, MAX].iter().for_each(|x| drop_refused(&board, &with(*x), 22, *x));
+        }
+        drop_refused(&board, &list.repeat(3), 23, 180);
+        drop_refused(&board, &[list.repeat(2), vec![0]].concat(), 22, 0);
+        // All but the last, and then all.
+        let (mut most, last) = (board.clone(), list[179]);
+        assert_eq!((most.drop(&list[..179]), most.nets().len(), most.has(last)), (Ok(()), 1, true));
+        drop_refused(&most, &list, 22, list[0]);
+        drop_refused(&most, &[&[last, last], &list[..]].concat(), 22, list[0]);
+        assert_eq!((most.drop(&[last]), most), (Ok(()), after));
+    }
+}
+
+/// The list in each of these orders, and its nets singly in each, leave the same board.
+fn same_in_any_order(board: &Board, list: &[u64], orders: &[Vec<u64>]) {
+    let mut right = board.clone();
+    assert_eq!(right.drop(list), Ok(()));
+    assert_eq!(right.nets().len(), board.nets().len() - list.len());
+    for order in orders {
+        let (mut at_once, mut singly) = (board.clone(), board.clone());
+        assert_eq!(at_once.drop(order), Ok(()));
+        order.iter().for_each(|net| assert_eq!(singly.drop(&[*net]), Ok(())));
+        assert_eq!((counts(&at_once), &at_once), (counts(&right), &right), "{order:?}");
+        assert_eq!((counts(&singly), &singly), (counts(&right), &right), "{order:?}");
+        // A list after a list.
+        let (first, rest) = order.split_at(order.len() / 2);
+        let mut in_two = board.clone();
+        assert_eq!((in_two.drop(first), in_two.drop(rest)), (Ok(()), Ok(())));
+        assert_eq!(in_two, right, "{order:?}");
+    }
+}
+
+/// Every order of a list.
+fn all_orders(list: &[u64]) -> Vec<Vec<u64>> {
+    match list {
+        [] => vec![vec![]],
+        [first, rest @ ..] => {
+            let with_first = |order: Vec<u64>| (0..=order.len()).map(move |i| [&order[..i], &[*first], &order[i..]].concat());
+            all_orders(rest).into_iter().flat_map(with_first).collect()
+        }
+    }
+}
+
+#[test]
+fn a_list_is_its_nets_singly_in_any_order() {
+    assert_eq!(all_orders(&[1, 2, 3]), [[1, 2, 3], [2, 1, 3], [2, 3, 1], [1, 3, 2], [3, 1, 2], [3, 2, 1]]);
+    let r = &mut Numbers::new(109);
+    let mut longest = 0;
+    for round in 0..150 {
+        let shape = if round < 3 { (BOX, LONGEST_SIDE, LONGEST_SIDE) } else { random_shape(r) };
+        let mut board = Board::fresh();
+        edits::history(r, shape, true, 20, 5).iter().for_each(|call| drop(line(&mut board, call)));
+        let mut nets: Vec<u64> = board.nets().keys().map(|net| *net as u64).collect();
+        r.shuffle(&mut nets);
+        for size in [nets.len().min(4), r.below(nets.len() + 1), nets.len()] {
+            let list = &nets[..size];
+            let orders = if size <= 4 { all_orders(list) } else { (0..3).map(|_| shuffled(r, list)).collect() };
+            same_in_any_order(&board, list, &orders);
+            longest = longest.max(size);
+        }
+    }
+    assert!(longest > 100, "{longest}");
 }
 
 /// The order of a list is no part of the ticket.
@@ -200,7 +391,7 @@ fn a_channel_and_its_figures_call_by_call() {
         figures.push((board.add(net, places), board.figures()));
     }
     assert_eq!(figures, [(Ok(()), [0; 3]), (Ok(()), [1, 0, 0]), (Ok(()), [2, 0, 0]), (Err(Refusal(21, 1)), [2, 0, 0])]);
-    assert_eq!((board.drop(2), board.figures(), board.nets().len()), (Ok(()), [1, 0, 0], 2));
+    assert_eq!((board.drop(&[2]), board.figures(), board.nets().len()), (Ok(()), [1, 0, 0], 2));
     assert_eq!(board.ticket(), [2, 4, 1, 3, 5, 1, 3, 7, 1, 3, 3]);
 }
 
@@ -254,7 +445,7 @@ fn counts_of_nets_on_one_side() {
     for (net, places, columns, tracks) in
         [(1, north, [2, 1, 2], [3, 2]), (2, south, [2, 1, 2], [2, 3]), (3, west, [2, 2, 3], [2, 2]), (4, east, [3, 2, 2], [2, 2])]
     {
-        assert_eq!(board.drop(net), Ok(()));
+        assert_eq!(board.drop(&[net]), Ok(()));
         counts_are(&board, &columns, &tracks);
         assert_eq!(board.add(net, places), Ok(()));
         counts_are(&board, &[3, 2, 3], &[3, 3]);
@@ -287,7 +478,7 @@ fn counts_of_the_longest_spans() {
     counts_are(&board, &[1; 90], &[1; 90]);
     assert_eq!(board.add(2, &[90, 257]), Ok(()));
     counts_are(&board, &[2; 90], &[2; 90]);
-    assert_eq!(board.drop(1), Ok(()));
+    assert_eq!(board.drop(&[1]), Ok(()));
     counts_are(&board, &[1; 90], &[1; 90]);
     let (board, _) = Board::start(3, 90, 90);
     counts_are(&board, &[0; 90], &[0; 90]);
@@ -305,8 +496,7 @@ fn counts_of_the_longest_spans() {
 #[test]
 fn full_boards() {
     let side = LONGEST_SIDE;
-    let mut board = Board::fresh();
-    of_ticket(&hardest::ticket(side, side)).iter().for_each(|call| drop(line(&mut board, call)));
+    let board = full_box();
     assert_eq!((board.nets().len(), board.ticket().len(), board.figures()), (180, LONGEST_TICKET, [180, 180, 4]));
     assert_eq!((board.count_at_column(45), board.count_at_track(45)), (180, 180));
     for net in 1..=LARGEST_NET {
@@ -321,7 +511,7 @@ fn full_boards() {
     }
     assert_eq!((board.ticket().len(), board.figures()), (LONGEST_TICKET, [1, 1, 2]));
     counts_are(&board, &[1; 90], &[1; 90]);
-    assert_eq!((board.drop(180), board), (Ok(()), started(BOX, side, side)));
+    assert_eq!((board.drop(&[180]), board), (Ok(()), started(BOX, side, side)));
 }
 
 #[test]
@@ -341,6 +531,7 @@ fn buffers_around_the_length_needed() {
 }
 
 /// A second board: the net at each place number, and what each column and each track must pass, kept through every edit.
+#[derive(Clone)]
 struct Kept {
     kind: u8,
     n: usize,
@@ -424,16 +615,33 @@ impl Kept {
         [0, 0]
     }
 
-    fn drop(&mut self, net: u64) -> [u64; 2] {
-        if !(1..=180).contains(&net) {
-            return [7, 0];
+    /// Whether the net was there to be dropped.
+    fn drop_one(&mut self, net: u64) -> bool {
+        let there = self.has(net);
+        if there {
+            self.recount(net as u8, -1);
+            self.at.iter_mut().filter(|m| **m as u64 == net).for_each(|m| *m = 0);
         }
-        if !self.has(net) {
-            return [22, net];
+        there
+    }
+
+    /// One net after the other: one that has gone, and was there before, is a repeat. All come back if one of them can't be dropped.
+    fn drop(&mut self, nets: &[u64]) -> [u64; 2] {
+        let before = self.clone();
+        let mut outcome = [0, 0];
+        for (i, net) in nets.iter().enumerate() {
+            if !before.has(*net) {
+                outcome = [22, *net];
+                break;
+            }
+            if !self.drop_one(*net) && outcome == [0, 0] {
+                outcome = [23, i as u64];
+            }
         }
-        self.recount(net as u8, -1);
-        self.at.iter_mut().filter(|m| **m as u64 == net).for_each(|m| *m = 0);
-        [0, 0]
+        if outcome != [0, 0] {
+            *self = before;
+        }
+        outcome
     }
 
     fn make(&mut self, call: &Call) -> [u64; 2] {
@@ -444,7 +652,7 @@ impl Kept {
                 outcome
             }
             Call::Add(net, places) => self.add(*net, places),
-            Call::Drop(net) => self.drop(*net),
+            Call::Drop(nets) => self.drop(nets),
             Call::Write(size) => match self.ticket().len() {
                 length if length > *size => [19, length as u64],
                 _ => [0, 0],
@@ -550,14 +758,18 @@ fn same_after(board: &mut Board, kept: &mut Kept, call: &Call) -> [u64; 2] {
         buffer[..ticket.len()].copy_from_slice(&ticket);
     }
     let written = [if outcome[0] == 19 { 0 } else { ticket.len() as u64 }, hash(0, &buffer)];
-    match call {
-        Call::Write(_) => assert_eq!(printed[2..], written, "{call:?}"),
-        Call::Start(first, ..) | Call::Add(first, _) | Call::Drop(first) => {
-            let hashed = hash(0, &kept.counts_by_definition().concat());
-            let right = [&[kept.has(*first) as u64, f.nets as u64], &kept.figures()[..], &written, &[hashed]].concat();
-            assert_eq!(printed[2..], right, "{call:?}");
+    let first = match call {
+        Call::Start(first, ..) | Call::Add(first, _) => Some(*first),
+        Call::Drop(nets) => nets.first().copied(),
+        Call::Write(_) => {
+            assert_eq!(printed[2..], written, "{call:?}");
+            return outcome;
         }
-    }
+    };
+    let there = first.is_some_and(|net| kept.has(net)) as u64;
+    let hashed = hash(0, &kept.counts_by_definition().concat());
+    let right = [&[there, f.nets as u64], &kept.figures()[..], &written, &[hashed]].concat();
+    assert_eq!(printed[2..], right, "{call:?}");
     outcome
 }
 
@@ -575,7 +787,7 @@ fn histories(r: &mut Numbers, many: usize, calls: usize) -> [usize; 256] {
             given[number as usize] += 1;
             match call {
                 Call::Add(..) if number == 0 => survivors.push(call),
-                Call::Drop(net) if number == 0 => survivors.retain(|add| !matches!(add, Call::Add(m, _) if m == net)),
+                Call::Drop(nets) if number == 0 => survivors.retain(|add| !matches!(add, Call::Add(m, _) if nets.contains(m))),
                 _ => {}
             }
         }
@@ -590,8 +802,8 @@ fn histories(r: &mut Numbers, many: usize, calls: usize) -> [usize; 256] {
 fn random_histories() {
     let given = histories(&mut Numbers::new(83), 120, 120);
     assert!(given[0] > 8_000, "{}", given[0]);
-    for number in [7, 19, 20, 21, 22] {
-        assert!(given[number] > 150, "{number}: {}", given[number]);
+    for number in [7, 19, 20, 21, 22, 23] {
+        assert!(given[number] > 120, "{number}: {}", given[number]);
     }
 }
 
@@ -641,6 +853,49 @@ fn histories_of_the_shortest_and_the_longest_boards() {
     assert!(least > Some(2), "{all_columns} {all_tracks} {no_column} {no_track} {of_side:?}");
 }
 
+/// Boards that are filled again and again, and lists of every sort that are dropped from them.
+#[test]
+fn lists_of_every_sort() {
+    let r = &mut Numbers::new(113);
+    let mut sorts: BTreeMap<&str, usize> = BTreeMap::new();
+    for _ in 0..80 {
+        let shape = random_shape(r);
+        let (mut board, (mut kept, _)) = (Board::fresh(), Kept::start(1, 1, 1));
+        for call in edits::dropped_lists(r, shape, 3, 12) {
+            let nets = board.nets().len();
+            let outcome = same_after(&mut board, &mut kept, &call);
+            let Call::Drop(list) = call else { continue };
+            let (size, at) = (list.len(), list.iter().position(|x| outcome == [22, *x]).unwrap_or(0));
+            let sort = match outcome {
+                [0, _] if size < 2 => ["no net", "one net"][size],
+                [0, _] if size < nets => "several nets",
+                [0, _] => "all nets",
+                [22, _] if (1..at).any(|i| list[..i].contains(&list[i])) => "an absent net after a repeat",
+                [22, _] if at == 0 => "an absent net first",
+                [22, _] if at + 1 == size => "an absent net last",
+                [22, 1..=180] => "an absent net in the middle",
+                [22, _] => "no net's number in the middle",
+                [_, 1] => "a repeat at index 1",
+                _ if size > nets => "a repeat in a list longer than all nets",
+                _ => "a repeat",
+            };
+            *sorts.entry(sort).or_default() += 1;
+        }
+    }
+    assert_eq!(sorts.len(), 12, "{sorts:?}");
+    assert!(sorts.values().all(|many| *many > 20), "{sorts:?}");
+}
+
+/// Every list of so many of these numbers or fewer.
+fn lists_of(numbers: &[u64], most: usize) -> Vec<Vec<u64>> {
+    let mut lists: Vec<Vec<u64>> = vec![vec![]];
+    for i in 0..most {
+        let longest: Vec<Vec<u64>> = lists.iter().filter(|list| list.len() == i).cloned().collect();
+        lists.extend(longest.iter().flat_map(|list| numbers.iter().map(move |x| [&list[..], &[*x]].concat())));
+    }
+    lists
+}
+
 /// Every list of three places or fewer out of all those near the sides, on an empty board and on one with a net.
 #[test]
 fn every_short_list_on_small_boards() {
@@ -649,11 +904,7 @@ fn every_short_list_on_small_boards() {
         let last = n.max(byte2) + 1;
         let mut near: Vec<u64> = (NORTH..=EAST).flat_map(|side| (0..=last).map(move |i| place_number(side, i))).collect();
         near.extend([255, 1025]);
-        let mut lists: Vec<Vec<u64>> = vec![vec![]];
-        for i in 0..3 {
-            let longest: Vec<Vec<u64>> = lists.iter().filter(|list| list.len() == i).cloned().collect();
-            lists.extend(longest.iter().flat_map(|list| near.iter().map(move |place| [&list[..], &[*place]].concat())));
-        }
+        let lists = lists_of(&near, 3);
         let all = place_numbers(kind, n, byte2);
         for first in [vec![], vec![Call::Add(9, vec![all[0], all[2]])]] {
             // Two or three of the free places, in any order.
@@ -669,6 +920,31 @@ fn every_short_list_on_small_boards() {
         }
     }
     assert_eq!((accepted, right), (460, 460));
+}
+
+/// Every list of four numbers or fewer out of those of the nets that are there, of a net that is not, and of some that are no net's.
+#[test]
+fn every_short_list_of_nets_on_small_boards() {
+    let mut given = [0; 24];
+    for (kind, n, byte2) in [(ROW, 6, 1), (CHANNEL, 2, 1), (BOX, 1, 1), (BOX, 1, 2), (BOX, 2, 1)] {
+        let all = place_numbers(kind, n, byte2);
+        let adds: Vec<Call> = [180, 1, 9].into_iter().zip(all.chunks(2)).map(|(net, list)| Call::Add(net, list.to_vec())).collect();
+        for there in 0..=adds.len() {
+            let (mut board, (mut kept, _)) = (Board::fresh(), Kept::start(1, 1, 1));
+            let calls = [&[Call::Start(kind as u64, n as u64, byte2 as u64)], &adds[..there]].concat();
+            calls.iter().for_each(|call| drop((line(&mut board, call), kept.make(call))));
+            let numbers: Vec<u64> = board.nets().keys().map(|net| *net as u64).chain([7, 0, 181, 256 + 180, MAX]).collect();
+            for list in lists_of(&numbers, 4) {
+                let [number, _] = same_after(&mut board.clone(), &mut kept.clone(), &Call::Drop(list));
+                given[number as usize] += 1;
+            }
+        }
+    }
+    // All lists, those accepted, and those with a repeat and nothing absent; each with no net, one, two and three there. Three boards have
+    // room for three nets, and two for two.
+    let sum = |by_nets: [usize; 4]| 5 * (by_nets[0] + by_nets[1] + by_nets[2]) + 3 * by_nets[3];
+    let (all, accepted, with_repeat) = (sum([781, 1555, 2801, 4681]), sum([1, 2, 5, 16]), sum([0, 3, 26, 105]));
+    assert_eq!([given[0], given[22], given[23]], [accepted, all - accepted - with_repeat, with_repeat]);
 }
 
 /// A ticket's nets, added in any order, make that ticket.
@@ -703,9 +979,12 @@ fn records_by_hand() {
     assert_eq!(Call::Start(3, 1, 2).record(), [1, 3, 0, 3, 0, 1, 0, 2, 0]);
     assert_eq!(Call::Add(9, vec![513, 514]).record(), [2, 3, 0, 9, 0, 1, 2, 2, 2]);
     assert_eq!(Call::Add(9, vec![]).record(), [2, 1, 0, 9, 0]);
-    assert_eq!(Call::Drop(65536).record(), [131, 1, 0, 0, 0, 1, 0, 0, 0, 0, 0]);
+    assert_eq!(Call::drop_one(65536).record(), [131, 1, 0, 0, 0, 1, 0, 0, 0, 0, 0]);
+    assert_eq!((Call::Drop(vec![]).record(), Call::Drop(vec![9, 300]).record()), (vec![3, 0, 0], vec![3, 2, 0, 9, 0, 44, 1]));
     assert_eq!(Call::Write(300).record(), [4, 1, 0, 44, 1]);
-    let input = [Call::Start(3, 1, 2), Call::Add(9, vec![513, 514]), Call::Write(6), Call::Drop(65536)].map(|call| call.record()).concat();
+    let made = [Call::Start(3, 1, 2), Call::Add(9, vec![513, 514]), Call::Write(6)];
+    let drops = [vec![], vec![65536], vec![9, 9], vec![9]].map(Call::Drop);
+    let input: Vec<u8> = made.iter().chain(&drops).flat_map(Call::record).collect();
     let stained = |front: &[u8]| hash(0, &[front, &vec![STAIN; RECORD_BUFFER - front.len()]].concat());
     let (empty, full, none) = (stained(&[3, 1, 2, 0]), stained(&[3, 1, 2, 4, 3, 9, 9]), stained(&[]));
     // Column 1 and tracks 1 and 2 count the net; the bytes of the tracks begin at 98.
@@ -718,7 +997,10 @@ fn records_by_hand() {
         format!("0 0 0 0 0 0 1 4 {empty} {fresh}\n"),
         format!("0 0 1 1 1 1 2 7 {full} {with_net}\n"),
         format!("19 7 0 {none}\n"),
-        format!("7 0 0 1 1 1 2 7 {full} {with_net}\n"),
+        format!("0 0 0 1 1 1 2 7 {full} {with_net}\n"),
+        format!("22 65536 0 1 1 1 2 7 {full} {with_net}\n"),
+        format!("23 1 1 1 1 1 2 7 {full} {with_net}\n"),
+        format!("0 0 0 0 0 0 1 4 {empty} {fresh}\n"),
     ];
     assert_eq!(run(&input), lines.concat());
 }
@@ -740,14 +1022,14 @@ fn runs_are_the_lines_of_their_calls() {
 
 #[test]
 fn what_ends_a_run() {
-    let drop = Call::Drop(1).record();
+    let drop = Call::drop_one(1).record();
     let lines = |middle: Vec<u8>| run(&[&drop[..], &middle, &drop].concat()).lines().count();
     for wide in [false, true] {
-        for (code, numbers) in [(0, 1), (5, 1), (127, 3), (1, 0), (1, 2), (2, 0), (3, 0), (4, 0)] {
+        for (code, numbers) in [(0, 0), (0, 1), (5, 0), (5, 1), (127, 3), (1, 0), (1, 2), (2, 0), (4, 0)] {
             assert_eq!(lines(record(code, wide, &vec![1; numbers])), 1, "{code}");
         }
         assert_eq!(lines(record(4, wide, &[513])), 1);
-        for (code, numbers) in [(1, 3), (1, 9), (2, 1), (2, MOST_NUMBERS), (3, 2), (4, MOST_NUMBERS)] {
+        for (code, numbers) in [(1, 3), (1, 9), (2, 1), (2, MOST_NUMBERS), (3, 0), (3, 1), (3, MOST_NUMBERS), (4, MOST_NUMBERS)] {
             assert_eq!(lines(record(code, wide, &vec![1; numbers])), 3, "{code}");
             assert_eq!(lines(record(code, wide, &[1; MOST_NUMBERS + 1])), 1, "{code}");
         }

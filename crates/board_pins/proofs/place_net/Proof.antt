@@ -13,8 +13,8 @@ use Rattle.grid.specs.Legal.{pinsOf}
 use Rattle.problem.specs.Problem.{pinsIn}
 use Rattle.ticket_sides.proofs.Flags.{failed, passed}
 use Rattle.board_law.specs.Edits.{isFree}
+use Rattle.board_law.proofs.Accepted.{Counting, wrong-at, right-at, all-right}
 use Rattle.board_pins.proofs.Frees.{sides-fit, free-place, Stands, stands-none, free-now, one-more}
-use Rattle.board_pins.proofs.Frees.{Counting, wrong-at, right-at, all-right}
 use Rattle.board_pins.proofs.place_net.Statement.{statement}
 use Rattle.board_pins.proofs.place_net.Tie as tie
 use Rattle.board_pins.proofs.place_net.Reads as reads

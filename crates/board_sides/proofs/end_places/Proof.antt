@@ -6,7 +6,8 @@ use denote.Ref.{now}
 use borrow.Author.Needs.{needs}
 use Rattle.grid.specs.Legal.{entry}
 use Rattle.grid.proofs.Entries.{entry-next}
-use Rattle.board_sides.proofs.Padding.{paddedSide, padded-is}
+use Rattle.board_sides.specs.Limits.{paddedSide}
+use Rattle.board_sides.proofs.Padding.{padded-is}
 use Rattle.board_sides.proofs.Seen.{Seen, seen-none, seen-more, seen-all}
 use Rattle.board_sides.proofs.end_places.Statement.{statement}
 use Rattle.board_sides.proofs.end_places.Tie as tie

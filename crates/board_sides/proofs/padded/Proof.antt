@@ -8,7 +8,7 @@ use Rattle.terms.specs.Limits.{longestSide}
 use Rattle.grid.specs.Legal.{entry}
 use Rattle.grid.proofs.Entries.{entry-next}
 use Rattle.ticket.proofs.Filled.{Filled, filled-none, filled-set}
-use Rattle.board_sides.proofs.Padding.{paddedSide}
+use Rattle.board_sides.specs.Limits.{paddedSide}
 use Rattle.board_sides.proofs.padded.Statement.{statement}
 use Rattle.board_sides.proofs.padded.Tie as tie
 

@@ -9,7 +9,8 @@ use Rattle.counting.specs.Counting.{some}
 use Rattle.counting.proofs.Tests.{some-none-yet, some-more}
 use Rattle.grid.specs.Legal.{entry}
 use Rattle.grid.proofs.Entries.{entry-next}
-use Rattle.board_sides.proofs.Padding.{paddedSide, padded-is, some-padded}
+use Rattle.board_sides.specs.Limits.{paddedSide}
+use Rattle.board_sides.proofs.Padding.{padded-is, some-padded}
 use Rattle.board_sides.proofs.side_holds.Statement.{statement}
 use Rattle.board_sides.proofs.side_holds.Tie as tie
 

@@ -615,7 +615,7 @@ fn board_starts() -> Vec<Call> {
     // An accepted one takes the pins away too.
     for (kind, n, byte2) in [(1, 2, 8), (2, 1, 1), (3, 2, 2), (3, 1, 1)] {
         out.extend(used.clone());
-        out.extend([Call::Start(kind, n, byte2), Call::Drop(7), Call::Add(7, vec![1, 257])]);
+        out.extend([Call::Start(kind, n, byte2), Call::drop_one(7), Call::Add(7, vec![1, 257])]);
     }
     out
 }
@@ -631,7 +631,7 @@ fn board_refusals() -> Vec<Call> {
         out.push(add(5, &filled));
         for net in [0, 181, 255, 256, 256 + 5, (1 << 16) + 5, (1 << 32) + 5, u64::MAX] {
             out.extend([&[][..], &[a], &[0, 0], &[a, b]].map(|list| add(net, list)));
-            out.push(Call::Drop(net));
+            out.push(Call::drop_one(net));
         }
         // The net is there, whatever the list is.
         out.extend([&[][..], &[a], &[0], &[0, 0], &[a, a], &filled, &[a, b]].map(|list| add(5, list)));
@@ -652,10 +652,10 @@ fn board_refusals() -> Vec<Call> {
             out.push(add(6, &list));
         }
         for net in [6, 1, 180, 5, 5, 6] {
-            out.push(Call::Drop(net));
+            out.push(Call::drop_one(net));
         }
         // After so many refusals, and without net 5, every place is free.
-        out.extend([add(6, &all), Call::Drop(5), Call::Drop(6), add(5, &all), Call::Drop(5)]);
+        out.extend([add(6, &all), Call::drop_one(5), Call::drop_one(6), add(5, &all), Call::drop_one(5)]);
     }
     out
 }
@@ -670,15 +670,69 @@ fn board_moves() -> Vec<Call> {
         for i in 0..all.len() - 1 {
             let far = all[(i + all.len() / 2) % all.len()];
             let list = vec![far, all[i]];
-            out.extend([Call::Add(180, list.clone()), Call::Drop(180), Call::Add(180, list), Call::Drop(180)]);
-            out.extend([Call::Add(180, vec![all[i], all[i + 1]]), Call::Drop(9), Call::Add(9, vec![far, all[0]]), Call::Drop(180)]);
+            out.extend([Call::Add(180, list.clone()), Call::drop_one(180), Call::Add(180, list), Call::drop_one(180)]);
+            out.extend([Call::Add(180, vec![all[i], all[i + 1]]), Call::drop_one(9), Call::Add(9, vec![far, all[0]]), Call::drop_one(180)]);
         }
     }
     out
 }
 
-/// Full boards, and nets that are all on one side or in one column; each is written into buffers around its ticket's length, and
-/// loses a few nets, of which those with few pins come again.
+/// Lists of nets on a board of each kind that has three: absent numbers, each at every place of a list, and after a repeat; repeats; and
+/// two nets and three in several orders, which come again after each list.
+fn board_lists() -> Vec<Call> {
+    let drop = |list: &[u64]| Call::Drop(list.to_vec());
+    let mut out = vec![drop(&[]), drop(&[1]), drop(&[0, 0])];
+    for (kind, n, byte2) in [(ROW, 6, 1), (CHANNEL, 3, 8), (BOX, 3, 2)] {
+        let all = place_numbers(kind, n, byte2);
+        let nets = [(5, [1, 3]), (180, [2, 0]), (1, [4, 5])].map(|(net, at)| Call::Add(net, at.map(|i| all[i]).to_vec()));
+        out.extend([Call::Start(kind as u64, n as u64, byte2 as u64), drop(&[])]);
+        out.extend(nets.clone());
+        for x in [0, 2, 181, 255, 256, 256 + 5, 65535, u64::MAX] {
+            let lists = [&[x][..], &[x, 5, 180, 1], &[5, x, 180, 1], &[5, 180, x, 1], &[5, 180, 1, x], &[5, 5, x], &[x, x]];
+            out.extend(lists.map(drop));
+        }
+        out.extend([(1 << 16) + 5, (1 << 32) + 5, (1 << 63) + 5].map(|x| drop(&[5, x])));
+        // The first of two absent nets, and of several repeats.
+        out.extend([&[5, 2, 3][..], &[3, 2], &[2, 5, 5], &[1, 1, 2, 3, 180]].map(drop));
+        out.extend([&[5, 5][..], &[1, 5, 5], &[5, 1, 5, 1], &[5, 1, 1, 5], &[180, 5, 1, 180], &[1, 5, 180, 1, 5, 180]].map(drop));
+        out.push(drop(&[]));
+        for list in [&[5, 180][..], &[180, 5], &[1, 180], &[1, 5, 180], &[5, 180, 1], &[180, 1, 5], &[180, 5, 1]] {
+            out.extend([drop(list), drop(list)]);
+            out.extend(nets.iter().filter(|add| matches!(add, Call::Add(net, _) if list.contains(net))).cloned());
+        }
+    }
+    out
+}
+
+/// The net that a call adds.
+fn added_net(call: &Call) -> u64 {
+    let Call::Add(net, _) = call else { panic!("{call:?} adds no net") };
+    *net
+}
+
+/// Of a board to which these nets were added, a few are dropped by one list, and those with few pins come again; then all that are there are
+/// dropped at once. The list of 180 nets is refused before, with one of them again and with an absent one; they come again after it.
+fn few_and_all_dropped(r: &mut Numbers, adds: &[Call]) -> Vec<Call> {
+    let mut shuffled = adds.to_vec();
+    r.shuffle(&mut shuffled);
+    let (few, others) = shuffled.split_at(adds.len().min(3));
+    let again: Vec<Call> = few.iter().filter(|add| matches!(add, Call::Add(_, list) if list.len() <= 4)).cloned().collect();
+    let all: Vec<u64> = others.iter().chain(&again).map(added_net).collect();
+    let mut out = vec![Call::Drop(few.iter().map(added_net).collect())];
+    out.extend(again);
+    let most = adds.len() == LARGEST_NET as usize;
+    if most {
+        out.extend([all[0], 0].map(|one_more| Call::Drop([&all[..], &[one_more]].concat())));
+    }
+    out.push(Call::Drop(all));
+    if most {
+        out.extend_from_slice(adds);
+    }
+    out
+}
+
+/// Full boards, and nets that are all on one side or in one column; each is written into buffers around its ticket's length, and loses its
+/// nets by lists.
 fn full_boards(r: &mut Numbers) -> Vec<Call> {
     let side = LONGEST_SIDE;
     let one_net = |kind: u8, n: usize, byte2: usize| -> Vec<u8> {
@@ -702,13 +756,8 @@ fn full_boards(r: &mut Numbers) -> Vec<Call> {
         let calls = edits::of_ticket(&t);
         out.extend(calls.clone());
         out.extend([0, length - 1, length, length + 1, RECORD_BUFFER].map(Call::Write));
-        let mut nets = read::read(&t).expect("a good ticket").nets();
         out.push(Call::Add(1 + r.below(LARGEST_NET as usize) as u64, vec![1, 2]));
-        r.shuffle(&mut nets);
-        nets.truncate(3);
-        out.extend(nets.iter().map(|net| Call::Drop(*net as u64)));
-        let comes_again = |call: &Call| matches!(call, Call::Add(net, list) if list.len() <= 4 && nets.contains(&(*net as u8)));
-        out.extend(calls.into_iter().filter(comes_again));
+        out.extend(few_and_all_dropped(r, &calls[1..]));
     }
     // Lists that are longer than a board has places.
     let all = place_numbers(BOX, side, side);
@@ -741,12 +790,12 @@ fn board_spans() -> Vec<Call> {
         lists.retain(|list| list[0] != list[1] && list.iter().all(|place| all.contains(place)));
         out.push(Call::Start(kind as u64, n as u64, byte2 as u64));
         for list in &lists {
-            out.extend([Call::Add(2, list.clone()), Call::Drop(2)]);
+            out.extend([Call::Add(2, list.clone()), Call::drop_one(2)]);
         }
         let nets: Vec<(u64, Vec<u64>)> = (LARGEST_NET as u64 - lists.len() as u64 + 1..).zip(lists).collect();
         out.extend(nets.iter().map(|(net, list)| Call::Add(*net, list.clone())));
         for (net, list) in nets {
-            out.extend([Call::Drop(net), Call::Add(net, list)]);
+            out.extend([Call::drop_one(net), Call::Add(net, list)]);
         }
     }
     out
@@ -756,10 +805,10 @@ fn board_spans() -> Vec<Call> {
 /// longest begin empty too, so that nets of the longest span find room.
 fn board_histories(r: &mut Numbers) -> Vec<Call> {
     let (side, most) = (LONGEST_SIDE, MOST_TRUNK_LAYERS);
-    let rows = [(1, 1, 12), (2, most, 60), (7, 1, 150), (16, 3, 120), (side, 1, 240)];
-    let channels = [(1, 1, 80), (2, 2, 120), (8, 1, 130), (side, 1, 200)];
-    let boxes = [(1, 1, 200), (1, 2, 140), (2, 1, 140), (2, 2, 160), (3, 5, 180), (9, 8, 140), (40, 12, 100)];
-    let long_boxes = [(1, side, 200), (side, 1, 200), (2, side, 60), (side, side, 280)];
+    let rows = [(1, 1, 12), (2, most, 40), (7, 1, 80), (16, 3, 70), (side, 1, 130)];
+    let channels = [(1, 1, 40), (2, 2, 70), (8, 1, 80), (side, 1, 120)];
+    let boxes = [(1, 1, 100), (1, 2, 80), (2, 1, 80), (2, 2, 90), (3, 5, 110), (9, 8, 90), (40, 12, 60)];
+    let long_boxes = [(1, side, 120), (side, 1, 120), (2, side, 40), (side, side, 160)];
     let shapes = [(ROW, &rows[..]), (CHANNEL, &channels), (BOX, &boxes), (BOX, &long_boxes)];
     let mut out = Vec::new();
     for (kind, list) in shapes {
@@ -769,34 +818,40 @@ fn board_histories(r: &mut Numbers) -> Vec<Call> {
         }
     }
     for (kind, n, byte2) in [(ROW, side, most), (CHANNEL, side, most), (BOX, 1, side), (BOX, side, 1), (BOX, side, side)] {
-        out.extend(edits::history(r, (kind, n, byte2), false, 120, 10));
+        out.extend(edits::history(r, (kind, n, byte2), false, 65, 10));
+    }
+    for shape in [(ROW, 12, 2), (CHANNEL, 5, 1), (BOX, 1, 2), (BOX, 4, 3)] {
+        out.extend(edits::dropped_lists(r, shape, 4, 8));
     }
     out
 }
 
-/// The calls of board_vectors. A record is a code of one byte, 1 start (kind, n, byte 2), 2 add (net, places), 3 drop (net) or 4
+/// The calls of board_vectors. A record is a code of one byte, 1 start (kind, n, byte 2), 2 add (net, places), 3 drop (nets) or 4
 /// the ticket into a buffer of so many bytes; how many numbers follow, two bytes; and these, two bytes each, or eight where bit 7 of
-/// the code stands; all low byte first. A line has number, place, whether the net is there, nets, across, up, floor, the ticket's
+/// the code stands; all low byte first. A line has number, place, whether the first net is there, nets, across, up, floor, the ticket's
 /// length, the hash of the stained buffer that it was written to and that of the counts at columns and tracks; for code 4 number, place,
 /// length and the buffer's hash. `edits` has what else there is to say, what ends a run too.
 fn board_calls() -> Vec<Call> {
     let r = &mut Numbers::new(73);
-    [board_starts(), board_refusals(), board_moves(), board_spans(), full_boards(r), board_histories(r)].concat()
+    [board_starts(), board_refusals(), board_lists(), board_moves(), board_spans(), full_boards(r), board_histories(r)].concat()
 }
 
-/// The records of the calls; then some with numbers of eight bytes though they need two, some with more numbers than they take, and
-/// one that ends the run, with a good one after it.
+/// The records of the calls; then some with numbers of eight bytes though they need two, some with more numbers than they take, drops
+/// with the fewest numbers and the most, and a record that ends the run, with a good one after it.
 fn board_records(calls: &[Call]) -> Vec<u8> {
     let mut out: Vec<u8> = calls.iter().flat_map(Call::record).collect();
     let r = &mut Numbers::new(79);
-    let last = edits::history(r, (BOX, 3, 2), false, 60, 3);
+    let last = edits::history(r, (BOX, 3, 2), false, 50, 3);
     out.extend(last.iter().flat_map(Call::wide_record));
-    let longer = [(1, [2, 3, 1, 9]), (3, [9, 1, 2, 4]), (4, [7, 3, 2, 1]), (1, [3, 1, 1, 0])];
+    let longer = [(1, [2, 3, 1, 9]), (4, [7, 3, 2, 1]), (1, [3, 1, 1, 0])];
     for wide in [false, true] {
         out.extend(longer.iter().flat_map(|(code, numbers)| edits::record(*code, wide, numbers)));
+        out.extend(edits::record(3, wide, &[]));
     }
+    out.extend(Call::Add(8, vec![1, 257]).record());
+    out.extend(Call::Drop(vec![8; edits::MOST_NUMBERS]).record());
     out.extend(edits::record(5, false, &[1]));
-    out.extend(Call::Drop(1).record());
+    out.extend(Call::drop_one(1).record());
     out
 }
 

@@ -1,10 +1,9 @@
--- `board::box_width` meets its contract.
+-- `board_counts::box_width` meets its contract, for boxes and for the other kinds.
 use mathlib.Core.Path.{sym}
 use native.Mathlib.Omega.{arith}
-use borrow.Author.Needs.{needs}
 use Rattle.terms.proofs.Laws.{of-box, boxes-only}
-use Rattle.board.proofs.box_width.Statement.{statement}
-use Rattle.board.proofs.box_width.Tie as tie
+use Rattle.board_counts.proofs.box_width.Statement.{statement}
+use Rattle.board_counts.proofs.box_width.Tie as tie
 
 returns : tie.Need-returns
 returns c =
