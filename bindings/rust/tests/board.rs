@@ -88,6 +88,24 @@ fn longest_boards() {
     assert!(done > 30_000, "{done}");
 }
 
+/// Boards that are filled again and again, and lists of nets that are dropped from them, all nets of the longest boards too.
+#[test]
+fn lists_of_nets() {
+    let r = &mut Numbers::new(811);
+    let (mut done, mut lists) = (0, 0);
+    for round in 0..18 {
+        let mut list = Vec::new();
+        while list.len() < LONGEST_INPUT / 16 {
+            let shape = if round % 6 == 0 { (BOX, LONGEST_SIDE, LONGEST_SIDE) } else { random_shape(r) };
+            list.extend(edits::dropped_lists(r, shape, 6, 12));
+        }
+        let input = input(r, &list);
+        done += same_lines(&input);
+        lists += edits::calls(&input).iter().filter(|call| matches!(call, Call::Drop(nets) if nets.len() != 1)).count();
+    }
+    assert!(done > 60_000 && lists > 25_000, "{lists} of {done}");
+}
+
 /// Any numbers near the edges of their ranges; after each start a few edits.
 #[test]
 fn starts() {
@@ -112,11 +130,11 @@ fn records_that_are_none() {
     let good = input(r, &history);
     let mut inputs = vec![vec![], vec![3], vec![3, 1], vec![255; 9], vec![0; LONGEST_INPUT], vec![255; LONGEST_INPUT]];
     for wide in [false, true] {
-        for (code, numbers) in [(0, 1), (5, 1), (6, 3), (127, 3), (1, 0), (1, 2), (2, 0), (3, 0), (4, 0)] {
+        for (code, numbers) in [(0, 0), (0, 1), (5, 0), (5, 1), (6, 3), (127, 3), (1, 0), (1, 2), (2, 0), (4, 0)] {
             inputs.push([edits::record(code, wide, &vec![1; numbers]), good.clone()].concat());
         }
         for (code, numbers) in
-            [(1, 4), (1, 512), (2, 1), (2, 512), (3, 2), (3, 512), (4, 2), (4, 512), (1, 513), (2, 513), (3, 513), (4, 513)]
+            [(1, 4), (1, 512), (2, 1), (2, 512), (3, 0), (3, 2), (3, 512), (4, 2), (4, 512), (1, 513), (2, 513), (3, 513), (4, 513)]
         {
             inputs.push([edits::record(code, wide, &vec![1; numbers]), good.clone()].concat());
         }
