@@ -143,7 +143,8 @@ not-dropped q x q′ l r s e same answer refused bad sound =
 
 module _ (q x q′ : Problem) (ps : Pins) (l : List ℕ) (left : ℕ) (r : Refusal) (e : x ≡ q) (answer : r ≡ refusal 0 0)
     (right : refusal 0 0 ≡ dropRefusalOn x l)
-    (others : (s : Side) (a : ℕ) → In a longestSide → pinsIn ps s a ≡ withoutNets (pinsIn (x .pins)) l s a) (fewer : left ≡ x .nets - length l)
+    (others : (s : Side) (a : ℕ) → In a longestSide → pinsIn ps s a ≡ withoutNets (pinsIn (x .pins)) l s a)
+    (fewer : left ≡ x .nets - length l)
     (is : q′ ≡ record { kind = x .kind; n = x .n; byte2 = x .byte2; nets = left; pins = ps }) (sized : Sized q′)
     {columns tracks columns′ tracks′ : List ℕ} (taken : Sound x → TakenAway x l columns tracks columns′ tracks′) (sound : Sound q) where
   sound-with : Sound x

@@ -180,7 +180,8 @@ impl Board {
         }
     }
 
-    // Adds a net at these places, or says 7, 20 or 21. (The board handed back is a new one: the compiler copies more where self is changed.)
+    // Adds a net at these places, or says 7, 20 or 21. (The board handed back is a new one: the compiler copies more where self is
+    // changed.)
     pub fn add(mut self, net: usize, places: &[usize]) -> Edited
         ensures refused { λ r. ⌜ (accepted (r .refusal) ≡ false → r .board ≡ self) ⌝ }
         ensures added { λ r. ⌜ (Sound (self .problem)

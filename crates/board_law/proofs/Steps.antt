@@ -20,7 +20,8 @@ use Rattle.problem.specs.Problem.{pinsIn, pinCount, shapeOf}
 use Rattle.problem.proofs.Sizes.{side-fits}
 use Rattle.problem.proofs.Pinned.{pinned}
 use Rattle.board_law.specs.Places.{placeNumber, sideIn, placeIn, isPlace, listed}
-use Rattle.board_law.specs.Edits.{isThere, isFree, addRefusal, dropRefusal, withNet, withoutNets, Sound, Becomes, NetAdded, NetsDropped}
+use Rattle.board_law.specs.Edits.{isThere, isFree, addRefusal, dropRefusal, withNet, withoutNets}
+use Rattle.board_law.specs.Edits.{Sound, Becomes, NetAdded, NetsDropped}
 use Rattle.board_law.specs.History.{adding, dropping, NetPlaces, isIn, isOpen, changed, emptied, afterCall}
 use Rattle.board_law.proofs.Places.{side-back, place-back, listed-none}
 use Rattle.board_law.proofs.Accepted.{accepted-add, all-free}

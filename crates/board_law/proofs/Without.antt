@@ -165,5 +165,5 @@ module _ (q : Problem) (t : List ℕ) (m : ℕ) (sound : Sound (without q t)) (i
   next-counts size along ends column track counted =
       let still : (s : Side) (a : ℕ) → eqb (pinsIn (without q t .pins) s a) m ≡ eqb (pinsIn (q .pins) s a) m =
       holds-still t m (i .0) new q in
-      counts-without (next-apart size) (ends-turned (same-ends (still south) (still north) along)) (same-ends (still west) (still east) ends)
-      column track counted
+      counts-without (next-apart size) (ends-turned (same-ends (still south) (still north) along))
+      (same-ends (still west) (still east) ends) column track counted

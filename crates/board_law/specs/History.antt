@@ -10,8 +10,8 @@
 --   isOpen q ns v        v is a place of the board, by its kind and shape, that no net has
 --   changed ns m l       the nets, with the list l for net m
 --   emptied ns l         the nets, with no place for those of the list l
---   afterCall q ns c     the nets after a call: a net that is added has the places that the call lists, those that are dropped have none, and
---                        "A refused call leaves the board as it found it"
+--   afterCall q ns c     the nets after a call: a net that is added has the places that the call lists, those that are dropped have
+--                        none, and "A refused call leaves the board as it found it"
 --   netsAfter q ns cs    the nets after a list of calls, the first call first
 --   BoardState           what a board holds: a problem, and the stored figures of columns and tracks
 --   Fresh kind n byte2 b what a board of this kind and shape may hold when it starts

@@ -10,9 +10,8 @@
 //   5   all nets are dropped from the full board by one list
 //   6   all nets are dropped from the full board one after the other
 //
-// The nets are 1 and 91 in turn: their spans are the longest, all 90 columns and all 90 tracks must pass each; modes 5 and 6 begin with
-// them, and go on in rising order. It prints one line, a number that depends on what the last round made, so that the compiler leaves
-// nothing out.
+// A net is 1 and 91 in turn: their spans are the longest, all 90 columns and all 90 tracks must pass each. All nets are in rising and in
+// falling order in turn. It prints one line, a number that depends on what the last round made, so that the compiler leaves nothing out.
 use board::Board;
 use board::Edited;
 use board_pins::EAST_FROM;
@@ -126,14 +125,17 @@ fn drops_and_adds(board: Board, rounds: usize) -> Board {
     last
 }
 
-// All nets in rising order from this one on, and then those before it.
-fn nets_from(first: usize) -> [usize; Board::LARGEST_NET]
-    requires { ⌜ In first largestNet ⌝ }
-{
+// All nets, in rising order in even rounds and in falling order in odd ones.
+fn all_nets(round: usize) -> [usize; Board::LARGEST_NET] {
+    let rising = round % 2 == 0;
     let mut nets = [0usize; Board::LARGEST_NET];
     let mut i: usize = 0;
     while i < Board::LARGEST_NET {
-        nets[i] = 1 + (first - 1 + i) % Board::LARGEST_NET;
+        nets[i] = if rising {
+            1 + i
+        } else {
+            Board::LARGEST_NET - i
+        };
         i += 1;
     }
     nets
@@ -144,7 +146,7 @@ fn lists(board: Board, rounds: usize) -> Board {
     let mut last = board;
     let mut round: usize = 0;
     while round < rounds {
-        let nets = nets_from(net_of(round));
+        let nets = all_nets(round);
         let r = board.drop(&nets);
         let after = r.board;
         last = after;
@@ -171,7 +173,7 @@ fn all_singly(board: Board, rounds: usize) -> Board {
     let mut last = board;
     let mut round: usize = 0;
     while round < rounds {
-        let nets = nets_from(net_of(round));
+        let nets = all_nets(round);
         last = without_each(board, &nets);
         round += 1;
     }

@@ -710,8 +710,8 @@ fn added_net(call: &Call) -> u64 {
     *net
 }
 
-/// Of a board to which these nets were added, a few are dropped by one list, and those with few pins come again; then all that are there are
-/// dropped at once. The list of 180 nets is refused before, with one of them again and with an absent one; they come again after it.
+/// Of a board to which these nets were added, a few are dropped by one list, and those with few pins come again; then all that are there
+/// are dropped at once. The list of 180 nets is refused before, with one of them again and with an absent one; they come again after it.
 fn few_and_all_dropped(r: &mut Numbers, adds: &[Call]) -> Vec<Call> {
     let mut shuffled = adds.to_vec();
     r.shuffle(&mut shuffled);

@@ -191,8 +191,8 @@ returns-5 c =
     let q = x .limited .result in
     let along = c11 .end-places .result in
     let ends = c7 .end-places2 .result in
-    let counts : Recounts (withPins q (q .nets + 1) (c21 .place-net .result .pins)) (a .net) 1 along ends (a .self .columns) (a .self .tracks)
-    (c3 .recount .last .0) (c .before .recount2 .last .0) = record {
+    let counts : Recounts (withPins q (q .nets + 1) (c21 .place-net .result .pins)) (a .net) 1 along ends (a .self .columns)
+    (a .self .tracks) (c3 .recount .last .0) (c .before .recount2 .last .0) = record {
       along = c11 .end-places .ensures;
       ends = c7 .end-places2 .ensures;
       on-columns = recounted-along _ (q .n .0) 1 along ends _ _ (c11 .before .before .before .before .before .column-count .ensures)

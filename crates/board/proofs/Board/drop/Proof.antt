@@ -58,8 +58,8 @@ returns-2 c =
     let x = c3 .before .before .before .before .before .before in
     let a = x .before .before .args in
     let same = ap (λ (b : Board). b .problem) (c .refused2 .ensures .1) in
-    let refused = is-repeat _ _ (c3 .before .before .before .counts-without .ensures .0) (c3 .if1 .left) (c .before .before .first-repeat .ensures)
-    (c .before .if2 .taken) in (
+    let refused = is-repeat _ _ (c3 .before .before .before .counts-without .ensures .0) (c3 .if1 .left)
+    (c .before .before .first-repeat .ensures) (c .before .if2 .taken) in (
       λ z. c .refused2 .ensures .1,
       (
         λ sound.
@@ -93,12 +93,13 @@ returns-3 c =
     let is = c .before .with-pins .ensures .0 in
     let sized = c .before .with-pins .ensures .1 in
     let answer = c .refuse .ensures in
+    let others = c3 .without-nets .ensures in
     let dropped : Sound q → NetsDropped q nets _ _ =
-    λ sound. are-dropped q (x .limited .result) _ _ nets _ _ (x .limited .ensures .1 sound) answer right (c3 .without-nets .ensures) fewer is
-    sized taken sound in
+    λ sound.
+    are-dropped q (x .limited .result) _ _ nets _ _ (x .limited .ensures .1 sound) answer right others fewer is sized taken sound in
     let counts : Sound q → Counted q _ _ → Counted _ _ _ =
-    λ sound. dropped-counts q (x .limited .result) _ _ nets _ _ (x .limited .ensures .1 sound) answer right (c3 .without-nets .ensures) fewer
-    is sized taken sound in (
+    λ sound.
+    dropped-counts q (x .limited .result) _ _ nets _ _ (x .limited .ensures .1 sound) answer right others fewer is sized taken sound in (
       λ z. absurd (true≢false (sym (ap accepted answer) ∙ z)),
       (dropped, (counts, λ sound counted. any-order sound counted (dropped sound) (counts sound))),
     )
