@@ -23,7 +23,7 @@ use Rattle.problem.specs.declared.Problem.{Problem}
 use Rattle.problem.specs.Problem.{pinsIn, pinCount, netCount, shapeOf, widthOf}
 use Rattle.problem.proofs.Pinned.{pinned, a-pin}
 use Rattle.board_law.specs.Places.{listed}
-use Rattle.board_law.specs.Edits.{isThere, firstWrong, withoutNets, Sound, Becomes, NetsDropped}
+use Rattle.board_law.specs.Edits.{isThere, firstWrong, firstAbsent, dropRefusal, withoutNets, Sound, Becomes, NetsDropped}
 use Rattle.board_law.specs.Counts.{countEntries, Counted}
 use Rattle.board_law.specs.History.{BoardState, CountsKept, LeadsTo, done, drops}
 use Rattle.board_law.specs.Orders.{timesIn, singly, SameBoard, AsSingly}
@@ -195,3 +195,10 @@ any-order {b} {b′} {l} sound counted c kept ok =
           let (left, sound″) = dropped-singly l′ sound few (λ x e. all-there there l all x (sym (listed-same x) ∙ e)) runs in
           same-figures (same-left l l′ listed-same (c .dropped ok) (c .sound) left sound″) (kept counted) (calls-count counted runs);
     }
+
+-- "an empty list changes nothing": it is accepted, and the board is that of no single drop at all
+pub empty-list : {b b′ : BoardState} {r : Refusal} → Sound (b .problem) → Counted (b .problem) (b .columns) (b .tracks)
+    → NetsDropped (b .problem) [] r (b′ .problem) → CountsKept b b′ → (accepted r ≡ true) × SameBoard b′ b
+unfolding dropRefusal firstAbsent firstWrong singly
+empty-list {b} sound counted c kept =
+    let ok = ap accepted (c .refusal) in (ok, any-order sound counted c kept ok .same [] b (λ x. refl) done)
