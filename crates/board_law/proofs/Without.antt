@@ -51,7 +51,7 @@ same-problem kinds ns bytes nets pins i = record { kind = kinds i; n = ns i; byt
 
 -- ---- the pins that are left
 
--- what stands at a place that holds x
+-- what stands at a place that holds x once the nets of the list are left out
 abbrev pub leaves : List ℕ → ℕ → ℕ
 leaves l x = cond (listed l x) 0 x
 
@@ -87,7 +87,7 @@ unfolding without
 without-is {q} l size size′ kinds ns bytes nets pins =
     same-problem kinds ns bytes nets (same-pins (sized-without l size) size′ (λ s a i. pins s a i ∙ sym (pins-without q l s a)))
 
--- without the nets of no list nothing is left out
+-- an empty list leaves out nothing
 pub without-none : {q : Problem} → Sized q → without q [] ≡ q
 unfolding without
 without-none {q} size =
