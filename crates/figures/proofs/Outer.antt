@@ -2,16 +2,16 @@
 -- likewise at the other end. The only column passes both, and each net counts once.
 use Prim.Native.Nat.{ℕ, suc, _+_, _-_, _≤_, _<_, max}
 use mathlib.Core.Path.{_≡_, refl, sym, ap, ap₂, _∙_, subst}
-use mathlib.Core.Logic.{_≢_, by-cases}
+use mathlib.Core.Logic.{by-cases}
 use mathlib.Core.Bool.{Bool, true, false, not, _&&_, _||_, and-false, or-true, or-false}
 use mathlib.Core.List.{List}
 use native.Mathlib.Decide.{ℕ-discrete}
 use native.Mathlib.Omega.{arith}
 use lib.Dec.{eqb, leb}
 use borrow.Author.Tests.{eq-eqb, ne-eqb, le-leb, lt-leb}
-use Rattle.counting.specs.Counting.{In, bit, most}
+use Rattle.counting.specs.Counting.{bit, most}
 use Rattle.counting.proofs.Sums.{bit-le, sum-same, sum-add, sum-le}
-use Rattle.counting.proofs.Counts.{count-same, most-le, le-most}
+use Rattle.counting.proofs.Counts.{count-same, most-outer}
 use Rattle.terms.specs.Limits.{largestNet}
 use Rattle.grid.specs.Legal.{nets}
 use Rattle.figures.specs.Crossings.{at, nowhere, Way, crosses, all-near, all-far, nowhere-at-all, comesTo, EndsCounted, EndsAt}
@@ -145,24 +145,6 @@ module _ {a b from to : List ℕ} {n coming near far : ℕ} (small : n + 1 < now
     )
 
 -- ---- all columns: only the first and the last pass more nets than those that go over them
-
-most-outer : (f f′ : ℕ → ℕ) (n : ℕ) → 1 ≤ n → ((c : ℕ) → f c ≤ f′ c) → ((c : ℕ) → c ≢ 1 → c ≢ n → f′ c ≡ f c)
-    → max (most f n) (max (f′ 1) (f′ n)) ≡ most f′ n
-most-outer f f′ n one more same =
-    omega (
-      arith,
-      most-le f n (most f′ n) (λ c i. omega (arith, more c, le-most f′ n c i)),
-      le-most f′ n 1 (omega arith),
-      le-most f′ n n (omega arith),
-      most-le f′ n (max (most f n) (max (f′ 1) (f′ n))) each,
-    )
-  where
-    each : (c : ℕ) → In c n → f′ c ≤ max (most f n) (max (f′ 1) (f′ n))
-    each c i = by-cases (ℕ-discrete c 1)
-        (λ q. omega (arith, ap f′ q))
-        (λ ne. by-cases (ℕ-discrete c n)
-        (λ q. omega (arith, ap f′ q))
-        (λ no. omega (arith, same c ne no, le-most f n c i)))
 
 bit-or : (a b : Bool) → bit a ≤ bit (a || b)
 bit-or true b = omega arith
