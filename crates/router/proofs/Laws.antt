@@ -25,6 +25,7 @@ use Rattle.density.proofs.Free.{across-free}
 use Rattle.density.proofs.Bounds.{narrowest, lowest}
 use Rattle.problem.specs.declared.Problem.{Problem}
 use Rattle.problem.specs.Problem.{pinsIn, widthOf, shapeOf, Good}
+use Rattle.problem.proofs.Sizes.{box-shape}
 use Rattle.figures.specs.declared.Figures.{Figures}
 use Rattle.figures.specs.Figures.{tracksOf, figuresOf}
 use Rattle.grid.specs.Laid.{Laid}
@@ -285,16 +286,7 @@ module _ (q : Problem) where
         (narrowest (shapeOf q) g byte2 p x (sym (d .length)) (d .tracks) (bare-west h) (bare-east h) y few)
 
     pub no-lower : kind ≡ box → (g : Grid) (x : Wiring) → GridOf kind n tracks g → Legal g p x → figuresOf q .floor .0 ≤ g .k
-    no-lower e g x d y = subst (λ (u : ℕ). u ≤ g .k) (sym (box-floor e)) (lowest p x own rival (good .several) y)
+    no-lower e g x d y = subst (λ (u : ℕ). u ≤ g .k) (sym (box-floor e)) (lowest p x (box-shape good e) rival (good .several) y)
       where
         rival : GridOf box n byte2 g
         rival = subst₂ (λ (k u : ℕ). GridOf k n u g) e (box-tracks e) d
-
-        own : GridOf box n byte2 (shapeOf q)
-        own = record {
-          length = refl;
-          width = λ z. box-width e;
-          columns = good .columns .0;
-          tracks = subst (λ (u : ℕ). 1 ≤ u) (sym (box-width e)) (width e .0);
-          layers = omega arith;
-        }
