@@ -10,9 +10,9 @@ use lib.Dec.{eqb}
 use borrow.Author.Tests.{eq-eqb, eqb-true}
 use Rattle.counting.specs.Counting.{In, bit, most}
 use Rattle.counting.proofs.Counts.{some-in, most-le, pigeonhole, ceil-le}
-use Rattle.terms.specs.Kinds.{Side, north, south, west, east, box}
+use Rattle.terms.specs.Kinds.{Side, west, east, box}
 use Rattle.terms.specs.Limits.{largestNet}
-use Rattle.grid.specs.Grid.{Grid, pin, places, columnOf, Horizontal}
+use Rattle.grid.specs.Grid.{Grid, pin, point, places, columnOf, Horizontal}
 use Rattle.grid.specs.Legal.{Pins, Wiring, Held, Linked, Legal, GridOf, nets}
 use Rattle.grid.proofs.Neighbours.{Touches}
 use Rattle.grid.proofs.Pins.{Bare}
@@ -21,7 +21,7 @@ use Rattle.grid.proofs.Motions.{turn-over, turn-back, turn-legal}
 use Rattle.problem.proofs.Several.{Several, several-same, moved-several}
 use Rattle.density.specs.Density.{passes, across, hasPinOn, sidesOf, allOn, boxPassesAt, boxPasses, boxAcross, up}
 use Rattle.density.specs.Density.{horizontals, verticals, tracksFor, floor, floorOf}
-use Rattle.density.proofs.Free.{n-same, w-same, across-free, floor-box}
+use Rattle.density.proofs.Free.{places-same, across-free, floor-box}
 use Rattle.density.proofs.Tracks.{up-turned}
 use Rattle.density.proofs.Layers.{horizontals-are, verticals-are, halves}
 use Rattle.density.proofs.Pinned.{Pinned, node, or-in, passes-iff}
@@ -56,17 +56,24 @@ module _ (g : Grid) (p : Pins) (x : Wiring) (y : Legal g p x) where
   -- ---- boxes: a pin of the net on a side whose pins are joined to column c alone, and another pin
 
   module _ (two : Several g p) where
+    -- a pin of a net has a point beside it that holds the net, since the net has another pin
+    pub way-out : (s : Side) (a m : ℕ) → In a (places g s) → p s a ≡ m → 1 ≤ m
+        → (i : ℕ) × (j : ℕ) × (l : ℕ) × Touches g s a i j l × Held g p x m (point i j l)
+    way-out s a m i net h =
+        let o = two s a (omega (arith, net)) in
+        beside s a (y .whole m (pin (o .side) (o .place)) (pin s a) (omega arith)
+        (record { inside = o .on; net = o .net ∙ net }) (record { inside = i; net = net })) (o .different)
+
     at-end : (s : Side) (c m : ℕ) → ((a i j l : ℕ) → Touches g s a i j l → (i ≡ c) × Horizontal g l) → 1 ≤ m → allOn g p m s ≡ true
         → Crosses g x m c
     unfolding allOn
     at-end s c m near h e =
         let (a, i, q) = some-in (λ a. eqb (p s a) m) (places g s) (and-eq-true-iff (hasPinOn g p m s) (eqb (sidesOf g p m) 1) .0 e .0) in
-        let net = eqb-true (p s a) m q in
-        let o = two s a (omega (arith, net)) in
-        beside s a c (near a) (y .whole m (pin (o .side) (o .place)) (pin s a) (omega arith)
-        (record { inside = o .on; net = o .net ∙ net }) (record { inside = i; net = net })) (o .different)
+        let (i, j, l, t, held) = way-out s a m i (eqb-true (p s a) m q) h in
+        let (same, flat) = near a i j l t in
+        (j, l, held .inside .1, held .inside .2, flat, subst (λ (i : ℕ). x i j l ≡ m) same (held .net))
 
-    box-passed : (c m : ℕ) → In c (g .n) → 1 ≤ m → boxPasses g p c m ≡ true → Crosses g x m c
+    pub box-passed : (c m : ℕ) → In c (g .n) → 1 ≤ m → boxPasses g p c m ≡ true → Crosses g x m c
     unfolding boxPassesAt
     box-passed c m i h e =
         ⊎-elim (λ more. ⊎-elim (passed c m i h)
@@ -108,10 +115,5 @@ narrowest g g′ h p x same low bw be y few = rw (across-free g g′ p same bw b
 -- g is any grid of the same box, whose nets have two pins or more
 pub lowest : {n w : ℕ} {g g′ : Grid} (p : Pins) (x : Wiring) → GridOf box n w g → GridOf box n w g′ → Several g p → Legal g′ p x
     → floorOf g p ≤ g′ .k
-lowest {g = g} {g′ = g′} p x d d′ two y = rw (floor-box d d′ p) (layers-needed g′ p x y (several-same same two) (d′ .layers))
-  where
-    same : (s : Side) → places g s ≡ places g′ s
-    same north = n-same d d′ p
-    same south = n-same d d′ p
-    same west = w-same d d′ p
-    same east = w-same d d′ p
+lowest {g′ = g′} p x d d′ two y =
+    rw (floor-box d d′ p) (layers-needed g′ p x y (several-same (places-same d d′ p) two) (d′ .layers))

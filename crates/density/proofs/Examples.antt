@@ -4,7 +4,9 @@ use mathlib.Core.List.{[], _∷_}
 use Rattle.counting.specs.Counting.{sum, some, most, ceil}
 use Rattle.grid.specs.Grid.{upright}
 use Rattle.grid.specs.Legal.{Pins, pinsOf}
+use Rattle.grid.specs.Motion.{turn, movedPins}
 use Rattle.density.specs.Density.{pinOn, hasPin, passesAt, across, allOn, boxPassesAt, boxAcross, up, tracksFor, floor, floorOf}
+use Rattle.density.specs.EdgeFloor.{columnNeed, trackNeed, edgeFloor}
 
 -- C2: "n 3, h 1, north 1 1 empty, south empty 2 2: across 2, through column 2"
 c2 : Pins
@@ -45,6 +47,24 @@ both-ends = pinsOf [] [] (1 ∷ 1 ∷ 0 ∷ 3 ∷ []) (0 ∷ 2 ∷ 2 ∷ 3 ∷ [
 both-ends-across : boxAcross (upright 1 4 1) both-ends ≡ 3
 unfolding both-ends boxAcross boxPassesAt allOn passesAt hasPin pinOn most sum some
 both-ends-across = refl
+
+-- there the edge floor counts pins: nets 1 and 2 have two each, net 3 has both of its own at one track
+both-ends-need : columnNeed (upright 1 4 1) both-ends 1 ≡ 5
+unfolding both-ends columnNeed boxPassesAt allOn passesAt hasPin pinOn sum some
+both-ends-need = refl
+
+-- two long and two wide: both west pins on net 1, and net 2 in column 1 goes on. The edge floor is above the floor, and so it is of the box
+-- turned, by its tracks
+crossed : Pins
+crossed = pinsOf (2 ∷ 0 ∷ []) (0 ∷ 2 ∷ []) (1 ∷ 1 ∷ []) []
+
+crossed-floors : (floorOf (upright 2 2 1) crossed ∷ edgeFloor (upright 2 2 1) crossed ∷ []) ≡ (2 ∷ 3 ∷ [])
+unfolding crossed columnNeed trackNeed boxAcross up boxPassesAt allOn passesAt hasPin pinOn most sum some ceil floor
+crossed-floors = refl
+
+crossed-turned : (floorOf (upright 2 2 1) (movedPins turn crossed) ∷ edgeFloor (upright 2 2 1) (movedPins turn crossed) ∷ []) ≡ (2 ∷ 3 ∷ [])
+unfolding crossed columnNeed trackNeed boxAcross up boxPassesAt allOn passesAt hasPin pinOn most sum some ceil floor
+crossed-turned = refl
 
 -- R1 and R2: across 2 on one trunk layer and on two; R3: across 0
 tracks : (tracksFor 1 2 ∷ tracksFor 2 2 ∷ tracksFor 1 0 ∷ []) ≡ (2 ∷ 1 ∷ 1 ∷ [])
