@@ -52,7 +52,7 @@ pub record Counted (t : ℕ → Bool) (m total : ℕ) : Type 0 where
 pub counted-le : {t : ℕ → Bool} {m total : ℕ} → Counted t m total → total ≤ m
 counted-le {t} {m} r = omega (arith, r .is, count-le t m)
 
-one-if : (b : Bool) → cond b 1 0 ≡ bit b
+pub one-if : (b : Bool) → cond b 1 0 ≡ bit b
 one-if true = refl
 one-if false = refl
 

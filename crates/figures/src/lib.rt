@@ -20,7 +20,7 @@ use terms::wide;
 ghost use mathlib.Core.Path.{_≡_};
 ghost use Prim.Native.Nat.{_+_, _*_, _-_, _≤_, max};
 ghost use Rattle.counting.specs.Counting.{In, most};
-ghost use Rattle.terms.specs.Limits.{largestNet, longestSide};
+ghost use Rattle.terms.specs.Limits.{largestNet, longestSide, tableSum};
 ghost use Rattle.terms.specs.Kinds.{layersFor};
 ghost use Rattle.grid.specs.Legal.{nets};
 ghost use Rattle.density.specs.Density.{tracksFor, floor};
@@ -240,7 +240,7 @@ fn tracks_for(h: usize, a: usize) -> usize
 
 // 2a - 1, or 0 where a is 0.
 fn odd(a: usize) -> usize
-    requires { ⌜ a ≤ largestNet ⌝ }
+    requires { ⌜ a ≤ tableSum ⌝ }
     ensures { λ r. ⌜ r ≡ 2 * a - 1 ⌝ }
 {
     if a == 0 {
@@ -251,7 +251,7 @@ fn odd(a: usize) -> usize
 
 // (For our own crates.)
 pub fn floor_for(a: usize, b: usize) -> usize
-    requires { ⌜ (a ≤ largestNet) × (b ≤ largestNet) ⌝ }
+    requires { ⌜ (a ≤ tableSum) × (b ≤ tableSum) ⌝ }
     ensures { λ r. ⌜ r ≡ floor a b ⌝ }
 {
     larger(1, larger(odd(a), larger(odd(b), a + b)))

@@ -27,14 +27,14 @@ pub record Table (f : ℕ → ℕ) (list : List ℕ) : Type 0 where
 
 -- ---- one table
 
-abbrev empty : List ℕ
+abbrev pub empty : List ℕ
 empty = replicate netEntries 0
 
-table-none : (f : ℕ → ℕ) → ((m : ℕ) → f m ≡ 0) → Table f empty
+pub table-none : (f : ℕ → ℕ) → ((m : ℕ) → f m ≡ 0) → Table f empty
 table-none f z = record { size = refl; is = λ m l. zeros-at netEntries m ∙ sym (z m) }
 
 -- one entry changes
-table-more : (f f′ : ℕ → ℕ) (list : List ℕ) (v x : ℕ) → v ≤ largestNet → ((m : ℕ) → m ≢ v → f′ m ≡ f m) → x ≡ f′ v → Table f list
+pub table-more : (f f′ : ℕ → ℕ) (list : List ℕ) (v x : ℕ) → v ≤ largestNet → ((m : ℕ) → m ≢ v → f′ m ≡ f m) → x ≡ f′ v → Table f list
     → Table f′ (set list v x)
 table-more f f′ list v x l same e h = record {
   size = simp length-set (h .size);
@@ -47,7 +47,7 @@ table-same : (f f′ : ℕ → ℕ) (list : List ℕ) → ((m : ℕ) → f m ≡
 table-same f f′ list e h = record { size = h .size; is = λ m b. h .is m b ∙ e m }
 
 -- what stands at 0 is no net's
-net-table : (f : ℕ → ℕ) (list : List ℕ) → Table f list → NetTable f (set list 0 0)
+pub net-table : (f : ℕ → ℕ) (list : List ℕ) → Table f list → NetTable f (set list 0 0)
 net-table f list h = record {
   size = simp length-set (h .size);
   none = getD-set-same list 0 0 0 (omega (arith, h .size));

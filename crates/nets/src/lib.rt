@@ -55,7 +55,7 @@ pub fn choose(test: bool, a: u8, b: u8) -> u8
 }
 
 // The least place along the grid of a net's pins.
-fn low_of(first: u8, near: u8, far: u8, past: u8) -> u8
+pub fn low_of(first: u8, near: u8, far: u8, past: u8) -> u8
     ensures { λ r. ⌜ r ≡ lowOf first near far past ⌝ }
 {
     let beyond = choose(far == 0, 0, past);
@@ -125,7 +125,7 @@ pub fn no_spans() -> Spans
 }
 
 // A place's net, as the place of its entry in a table.
-fn net_at(side: &[u8; LONGEST_SIDE], i: usize) -> usize
+pub fn net_at(side: &[u8; LONGEST_SIDE], i: usize) -> usize
     requires { ⌜ (i < longestSide) × Numbered (now side) ⌝ }
     ensures { λ r. ⌜ (r ≡ getD (now (side .entry)) i 0) × (r ≤ largestNet) ⌝ }
 {

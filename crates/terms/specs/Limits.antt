@@ -8,8 +8,9 @@
 --   largestNet        "one net number, 1 to 180"
 --   byteValues        how many numbers a byte has
 --   netEntries        the entries of a table with one for each net and one for 0
+--   tableSum          no sum of a table with a byte for each net is above it
 --   within a top      whether a is one of 1 to top
-use Prim.Native.Nat.{ℕ}
+use Prim.Native.Nat.{ℕ, _*_}
 use mathlib.Core.Bool.{Bool, _&&_}
 use lib.Dec.{leb}
 
@@ -36,6 +37,9 @@ byteValues = 256
 
 abbrev pub netEntries : ℕ
 netEntries = 181
+
+abbrev pub tableSum : ℕ
+tableSum = byteValues * largestNet
 
 abbrev pub within : ℕ → ℕ → Bool
 within a top = leb 1 a && leb a top

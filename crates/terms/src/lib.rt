@@ -2,7 +2,7 @@
 ghost use mathlib.Core.Path.{_≡_};
 ghost use mathlib.Core.Bool.{_&&_, _||_};
 ghost use Prim.Native.Nat.{_≤_, _<_, min, max};
-ghost use Rattle.terms.specs.Limits.{longestSide, largestNet, byteValues, within};
+ghost use Rattle.terms.specs.Limits.{longestSide, byteValues, tableSum, within};
 ghost use Rattle.counting.specs.Counting.{In, bit, ceil};
 ghost use Rattle.terms.specs.Kinds.{byKind, isKind, largestSideMap, largestByte2, widest};
 ghost use Rattle.terms.specs.Refusals.{refusal};
@@ -185,7 +185,7 @@ pub fn larger_byte(a: u8, b: u8) -> u8
 
 // a/b rounded up. (For our own crates.)
 pub fn rounded_up(a: usize, b: usize) -> usize
-    requires { ⌜ (a ≤ largestNet) × (In b longestSide) ⌝ }
+    requires { ⌜ (a ≤ tableSum) × (In b longestSide) ⌝ }
     ensures { λ r. ⌜ (r ≡ ceil a b) × (r ≤ a) ⌝ }
 {
     (a + (b - 1)) / b

@@ -1,6 +1,7 @@
 -- `figures::figures_of` meets its contract: each figure is the definition's own, and the counts are those of a good problem.
 use Prim.Native.Nat.{ℕ}
 use mathlib.Core.Path.{_≡_, ap, ap₂, _∙_}
+use native.Mathlib.Omega.{arith}
 use borrow.Author.Needs.{needs}
 use Rattle.counting.specs.Counting.{ceil}
 use Rattle.terms.specs.Kinds.{north, south, west, east, byKind}
@@ -54,13 +55,13 @@ rounded-up-requires : tie.Need-rounded-up-requires
 rounded-up-requires c κs =
     let d = c .before .before .before .before .before in
     let k = d .before .before .before in
-    (d .density .ensures .small, width-fits (good k) (sizes k))
+    (omega (arith, d .density .ensures .small), width-fits (good k) (sizes k))
 
 rounded-up-requires-2 : tie.Need-rounded-up-requires-2
 rounded-up-requires-2 c κs =
     let u = c .before .before .before in
     let k = u .before .before .before .before .before .before in
-    (u .up-for .ensures .small, length-in (good k) (sizes k))
+    (omega (arith, u .up-for .ensures .small), length-in (good k) (sizes k))
 
 -- the floor's arguments, as they were computed before it
 fits : (c : tie.After-by-kind3) → let u = c .before .before .before .before .before .before .before in
