@@ -54,6 +54,7 @@ extern "C" {
 enum {
     POZQABEN_READ_ENTRIES = 6,
     POZQABEN_SURVEY_ENTRIES = 11,
+    POZQABEN_EDGE_FLOOR_ENTRIES = 4,
     POZQABEN_LAY_ENTRIES = 11,
     POZQABEN_CHECK_ENTRIES = 2,
     POZQABEN_LAYER_VIEW_ENTRIES = 4,
@@ -79,6 +80,12 @@ bool pozqaben_read(const uint8_t *ticket, size_t ticket_length, uint64_t *answer
  * hold a pin; up and floor are 0 but for boxes. Across and up of a box also count, at the first and the last column and
  * track, the nets whose pins are all on the side beside it */
 bool pozqaben_survey(const uint8_t *ticket, size_t ticket_length, uint64_t *answer, size_t answer_length);
+
+/* number, place, floor, edge floor; every legal wiring of the box has at least so many layers, and both are 0 but for
+ * boxes. The floor is survey's. The edge floor, which is at least the floor, counts also the pins at the ends of the
+ * grid: a net at the first and the last column once for each track with a pin of it beside that column, and at the first
+ * and the last track likewise */
+bool pozqaben_edge_floor(const uint8_t *ticket, size_t ticket_length, uint64_t *answer, size_t answer_length);
 
 /* number, place, kind, n, w, k, first, nets, across, up, floor; first is 1 where layer 1 is horizontal.
  * The wiring holds point (i, j, l), counted from 1, at ((l - 1) * w + (j - 1)) * n + i - 1. A refusal alters no byte of

@@ -1,5 +1,5 @@
-//! Pozqaben: reads and surveys tickets, lays wirings, checks wirings that anybody drew, shows a layer of one, writes the
-//! hardest box of a shape, and turns tickets flat and back.
+//! Pozqaben: reads and surveys tickets, counts the edge floor of a box, lays wirings, checks wirings that anybody drew, shows a
+//! layer of one, writes the hardest box of a shape, and turns tickets flat and back.
 //!
 //! A safe wrapper of the calls that the repository proves. A ticket is bytes; a wiring is a buffer that holds point
 //! (i, j, l), counted from 1, at ((l - 1) * w + (j - 1)) * n + i - 1, a net's number or 0. A flat ticket is bytes 0 to 2 of a
@@ -102,6 +102,17 @@ impl fmt::Display for Survey {
     }
 }
 
+/// Two lower bounds on the layers of a box: every legal wiring of it, whoever draws it, has at least so many. Both are 0 for kinds
+/// that are no box.
+#[derive(Clone, Copy, Debug, PartialEq, Eq)]
+pub struct EdgeFloor {
+    /// Survey's, from how many nets a column and a track must pass.
+    pub floor: usize,
+    /// At least the floor: it counts also the pins at the ends of the grid, a net at the first and the last column once for each
+    /// track with a pin of it beside that column, and at the first and the last track likewise.
+    pub edge_floor: usize,
+}
+
 /// What `lay` says of the wiring that it laid.
 #[derive(Clone, Copy, Debug, PartialEq, Eq)]
 pub struct Laid {
@@ -158,6 +169,15 @@ pub fn survey(ticket: &[u8]) -> Result<Survey, Refusal> {
     unsafe { raw::pozqaben_survey(ticket.as_ptr(), ticket.len(), answer.as_mut_ptr(), answer.len()) };
     let [_, _, k, n, w, nets, pins, across, up, layers, floor] = accepted(answer)?;
     Ok(Survey { kind: kind(k), n, w, nets, pins, across, up, layers, floor })
+}
+
+/// The floor and the edge floor of a box; what `read` refuses is refused alike.
+pub fn edge_floor(ticket: &[u8]) -> Result<EdgeFloor, Refusal> {
+    let mut answer = [0; raw::EDGE_FLOOR_ENTRIES];
+    // Sound: as in `read`.
+    unsafe { raw::pozqaben_edge_floor(ticket.as_ptr(), ticket.len(), answer.as_mut_ptr(), answer.len()) };
+    let [_, _, floor, edge_floor] = accepted(answer)?;
+    Ok(EdgeFloor { floor, edge_floor })
 }
 
 /// Lays the ticket into the buffer, of which a refusal alters no byte, and no other call a byte past the wiring.

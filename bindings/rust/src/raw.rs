@@ -11,6 +11,7 @@
 /// How many entries each call writes.
 pub const READ_ENTRIES: usize = 6;
 pub const SURVEY_ENTRIES: usize = 11;
+pub const EDGE_FLOOR_ENTRIES: usize = 4;
 pub const LAY_ENTRIES: usize = 11;
 pub const CHECK_ENTRIES: usize = 2;
 pub const LAYER_VIEW_ENTRIES: usize = 4;
@@ -30,6 +31,9 @@ extern "C" {
 
     /// number, place, kind, n, w, nets, pins, across, up, layers, floor
     pub fn pozqaben_survey(ticket: *const u8, ticket_length: usize, answer: *mut u64, answer_length: usize) -> bool;
+
+    /// number, place, floor, edge floor
+    pub fn pozqaben_edge_floor(ticket: *const u8, ticket_length: usize, answer: *mut u64, answer_length: usize) -> bool;
 
     /// number, place, kind, n, w, k, first, nets, across, up, floor
     pub fn pozqaben_lay(

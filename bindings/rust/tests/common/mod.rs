@@ -15,6 +15,10 @@ pub fn survey(ticket: &[u8], answer: &mut [u64]) -> bool {
     unsafe { raw::pozqaben_survey(ticket.as_ptr(), ticket.len(), answer.as_mut_ptr(), answer.len()) }
 }
 
+pub fn edge_floor(ticket: &[u8], answer: &mut [u64]) -> bool {
+    unsafe { raw::pozqaben_edge_floor(ticket.as_ptr(), ticket.len(), answer.as_mut_ptr(), answer.len()) }
+}
+
 pub fn lay(ticket: &[u8], wiring: &mut [u8], answer: &mut [u64]) -> bool {
     unsafe { raw::pozqaben_lay(ticket.as_ptr(), ticket.len(), wiring.as_mut_ptr(), wiring.len(), answer.as_mut_ptr(), answer.len()) }
 }

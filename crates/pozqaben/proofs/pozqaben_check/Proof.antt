@@ -1,7 +1,7 @@
 -- `pozqaben::pozqaben_check` meets its contract: the two entries that it stores tell what `checker::check` answers.
 use mathlib.Core.Path.{refl, sym}
 use borrow.Author.Needs.{needs}
-use Rattle.pozqaben.proofs.Storing.{told, untold, not-both}
+use Rattle.answers.proofs.Storing.{told, untold, not-both}
 use Rattle.pozqaben.proofs.pozqaben_check.Statement.{statement}
 use Rattle.pozqaben.proofs.pozqaben_check.Tie as tie
 

@@ -1,8 +1,8 @@
 -- `pozqaben::pozqaben_lay` meets its contract: it stores the fields of what `router::lay` answers, whose promise is the export's.
 use mathlib.Core.Path.{refl, sym, ap, _∙_}
 use borrow.Author.Needs.{needs}
-use Rattle.pozqaben.specs.Answers.{layEntries}
-use Rattle.pozqaben.proofs.Storing.{answered, unanswered, not-both}
+use Rattle.answers.specs.Answers.{layEntries}
+use Rattle.answers.proofs.Storing.{answered, unanswered, not-both}
 use Rattle.pozqaben.proofs.pozqaben_lay.Statement.{statement}
 use Rattle.pozqaben.proofs.pozqaben_lay.Tie as tie
 

@@ -1,7 +1,7 @@
 -- `pozqaben::pozqaben_layer_view` meets its contract: it stores what `view_entries` gives, and these entries name the part.
 use borrow.Author.Needs.{needs}
-use Rattle.pozqaben.proofs.Storing.{answered, unanswered, not-both}
-use Rattle.pozqaben.proofs.Views.{part-told}
+use Rattle.answers.proofs.Storing.{answered, unanswered, not-both}
+use Rattle.answers.proofs.Views.{part-told}
 use Rattle.pozqaben.proofs.pozqaben_layer_view.Statement.{statement}
 use Rattle.pozqaben.proofs.pozqaben_layer_view.Tie as tie
 

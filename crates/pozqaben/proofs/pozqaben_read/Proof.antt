@@ -1,8 +1,8 @@
 -- `pozqaben::pozqaben_read` meets its contract: it stores the fields of what `ticket::read` answers.
 use mathlib.Core.Path.{ap, _∙_}
 use borrow.Author.Needs.{needs}
-use Rattle.pozqaben.specs.Answers.{readEntries}
-use Rattle.pozqaben.proofs.Storing.{answered, unanswered}
+use Rattle.answers.specs.Answers.{readEntries}
+use Rattle.answers.proofs.Storing.{answered, unanswered}
 use Rattle.pozqaben.proofs.pozqaben_read.Statement.{statement}
 use Rattle.pozqaben.proofs.pozqaben_read.Tie as tie
 

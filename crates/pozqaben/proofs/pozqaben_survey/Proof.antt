@@ -1,8 +1,8 @@
 -- `pozqaben::pozqaben_survey` meets its contract: it stores the fields of what `survey::survey` answers.
 use mathlib.Core.Path.{ap, _∙_}
 use borrow.Author.Needs.{needs}
-use Rattle.pozqaben.specs.Answers.{surveyEntries}
-use Rattle.pozqaben.proofs.Storing.{answered, unanswered}
+use Rattle.answers.specs.Answers.{surveyEntries}
+use Rattle.answers.proofs.Storing.{answered, unanswered}
 use Rattle.pozqaben.proofs.pozqaben_survey.Statement.{statement}
 use Rattle.pozqaben.proofs.pozqaben_survey.Tie as tie
 

@@ -7,6 +7,7 @@
 --   layEntries a            Lay's answer: number, place, kind, n, w, k, first, nets, across, up, floor
 --   checkEntries a          Check's answer: number, place
 --   viewEntries x n w k l   Layer view's answer: number, place, start, length
+--   floorEntries a          the answer of the edge floor: number, place, floor, edge floor
 --   writtenEntries a        the answer of a call that writes a ticket: number, place, length
 --   partTold x array        the part of x that entries 2 and 3 of an array, counted from 0, name: its start and its length
 --   Answered entries b r a  the call returns r and leaves the array a, which was b: no where b has fewer places than there are entries,
@@ -23,6 +24,7 @@ use Rattle.view.specs.View.{viewRefusal, viewStart, viewLength}
 use Rattle.ticket.specs.declared.Reading.{Reading}
 use Rattle.ticket.specs.declared.ReadAnswer.{ReadAnswer}
 use Rattle.survey.specs.declared.SurveyAnswer.{SurveyAnswer}
+use Rattle.edge_floor.specs.declared.EdgeFloorAnswer.{EdgeFloorAnswer}
 use Rattle.router.specs.declared.LayAnswer.{LayAnswer}
 use Rattle.terms.specs.declared.Refusal.{Refusal}
 use Rattle.output.specs.declared.Written.{Written}
@@ -50,6 +52,9 @@ checkEntries a = a .number ∷ a .place ∷ []
 abbrev pub viewEntries : List ℕ → ℕ → ℕ → ℕ → ℕ → List ℕ
 viewEntries x n w k l =
     viewRefusal x n w k l .number ∷ viewRefusal x n w k l .place ∷ viewStart x n w k l ∷ viewLength x n w k l ∷ []
+
+abbrev pub floorEntries : EdgeFloorAnswer → List ℕ
+floorEntries a = a .refusal .number ∷ a .refusal .place ∷ a .floor .0 ∷ a .edge .0 ∷ []
 
 abbrev pub writtenEntries : Written → List ℕ
 writtenEntries a = a .refusal .number ∷ a .refusal .place ∷ a .length ∷ []

@@ -9,7 +9,7 @@ use Rattle.grid.specs.Grid.{upright}
 use Rattle.grid.specs.Legal.{index}
 use Rattle.view.specs.View.{viewRefusal, viewPart}
 use Rattle.view.proofs.Views.{start-refused, start-seen}
-use Rattle.pozqaben.specs.Answers.{viewEntries, partTold}
+use Rattle.answers.specs.Answers.{viewEntries, partTold}
 
 module _ (x : List ℕ) (n w k l : ℕ) (r : Refusal) (given : r ≡ viewRefusal x n w k l) where
   pub entries-refused : r .number ≢ 0 → r .number ∷ r .place ∷ 0 ∷ 0 ∷ [] ≡ viewEntries x n w k l

@@ -1,7 +1,7 @@
--- `pozqaben::lay_entries` meets its contract: the entries are the fields, the first direction as 1 or 0.
+-- `answers::lay_entries` meets its contract: the entries are the fields, the first direction as 1 or 0.
 use borrow.Author.Needs.{needs}
-use Rattle.pozqaben.proofs.lay_entries.Statement.{statement}
-use Rattle.pozqaben.proofs.lay_entries.Tie as tie
+use Rattle.answers.proofs.lay_entries.Statement.{statement}
+use Rattle.answers.proofs.lay_entries.Tie as tie
 
 returns : tie.Need-returns
 returns c = cc

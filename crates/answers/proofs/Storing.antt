@@ -12,7 +12,7 @@ use borrow.Author.Tests.{le-leb, lt-leb}
 use Rattle.ticket.specs.declared.Reading.{Reading}
 use Rattle.terms.specs.declared.Refusal.{Refusal}
 use Rattle.checker.specs.Check.{Checked}
-use Rattle.pozqaben.specs.Answers.{checkEntries, Answered, Tells}
+use Rattle.answers.specs.Answers.{checkEntries, Answered, Tells}
 
 -- the first i of s, and past those what d has
 abbrev pub front : List ℕ → List ℕ → ℕ → List ℕ

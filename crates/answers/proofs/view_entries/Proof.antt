@@ -1,10 +1,10 @@
--- `pozqaben::view_entries` meets its contract: a view that is not refused has counts for which start and length are defined.
+-- `answers::view_entries` meets its contract: a view that is not refused has counts for which start and length are defined.
 use borrow.Author.Needs.{needs}
 use native.Mathlib.Omega.{arith}
 use Rattle.view.proofs.Views.{seen}
-use Rattle.pozqaben.proofs.Views.{entries-refused, entries-seen}
-use Rattle.pozqaben.proofs.view_entries.Statement.{statement}
-use Rattle.pozqaben.proofs.view_entries.Tie as tie
+use Rattle.answers.proofs.Views.{entries-refused, entries-seen}
+use Rattle.answers.proofs.view_entries.Statement.{statement}
+use Rattle.answers.proofs.view_entries.Tie as tie
 
 returns : tie.Need-returns
 returns c = entries-refused _ _ _ _ _ _ (c .before .before .before .layer-view-refusal .ensures) (c .before .if1 .taken)

@@ -1,12 +1,12 @@
--- `pozqaben::put` meets its contract: after i turns the array is its own copy with the first i entries pasted at its start.
+-- `answers::put` meets its contract: after i turns the array is its own copy with the first i entries pasted at its start.
 use Prim.Native.Nat.{ℕ, _-_, _≤_}
 use mathlib.Core.Path.{_≡_, refl, ap, _∙_}
 use mathlib.Core.List.{List}
 use native.Mathlib.Omega.{arith}
 use lib.ListN.{length, getD, set}
-use Rattle.pozqaben.proofs.Storing.{front, front-next, front-length, front-whole}
-use Rattle.pozqaben.proofs.put.Statement.{statement}
-use Rattle.pozqaben.proofs.put.Tie as tie
+use Rattle.answers.proofs.Storing.{front, front-next, front-length, front-whole}
+use Rattle.answers.proofs.put.Statement.{statement}
+use Rattle.answers.proofs.put.Tie as tie
 
 abbrev Inv-loop : tie.InvT-loop
 Inv-loop answer₀ entries i₀ i-end answer i = (i ≤ length entries) × (answer ≡ front answer₀ entries i)
