@@ -1,4 +1,4 @@
-//! Read and Survey answer what the independent implementation answers, whatever the bytes.
+//! Read, Survey and the edge floor answer what the independent implementation answers, whatever the bytes.
 
 mod common;
 
@@ -9,6 +9,7 @@ use slow::BOX;
 fn same_answers(t: &[u8]) {
     assert_eq!(answered(|a| common::read(t, a)), slow::read::answer(t), "read {t:?}");
     assert_eq!(answered(|a| common::survey(t, a)), slow::survey::answer(t), "survey {t:?}");
+    assert_eq!(answered(|a| common::edge_floor(t, a)), slow::edge::answer(t), "edge floor {t:?}");
 }
 
 #[test]

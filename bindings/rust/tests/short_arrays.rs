@@ -19,7 +19,7 @@ fn only_with_room(entries: usize, mut call: impl FnMut(&mut [u64]) -> bool) {
 }
 
 #[test]
-fn read_survey_and_view() {
+fn read_survey_edge_floor_and_view() {
     let r = &mut Numbers::new(501);
     for _ in 0..200 {
         let t = random(r);
@@ -27,6 +27,8 @@ fn read_survey_and_view() {
         only_with_room(6, |a| common::read(&t[1..], a));
         only_with_room(11, |a| common::survey(&t, a));
         only_with_room(11, |a| common::survey(&t[1..], a));
+        only_with_room(4, |a| common::edge_floor(&t, a));
+        only_with_room(4, |a| common::edge_floor(&t[1..], a));
         only_with_room(4, |a| common::layer_view(&t, t.len(), 1, 1, 1, a));
         only_with_room(4, |a| common::layer_view(&t, t.len(), 1, 2, 1, a));
     }

@@ -1,8 +1,8 @@
 //! The safe wrapper's typed answers, and what its refusals say.
 
-use pozqaben::{check, check_with, flatten, flatten_into, hardest_box, hardest_box_into, lay, lay_into, layer_view, read, survey};
-use pozqaben::{unflatten, unflatten_into};
-use pozqaben::{Kind, Laid, Reading, Refusal, Survey};
+use pozqaben::{check, check_with, edge_floor, flatten, flatten_into, hardest_box, hardest_box_into, lay, lay_into, layer_view};
+use pozqaben::{read, survey, unflatten, unflatten_into};
+use pozqaben::{EdgeFloor, Kind, Laid, Reading, Refusal, Survey};
 use slow::tickets::{rings, DOCUMENT};
 use slow::{widest, BOX, CHANNEL, ROW, TWO_LAYER};
 use std::fmt::Debug;
@@ -75,6 +75,27 @@ fn west_net() {
     }
 }
 
+#[test]
+fn edge_floors() {
+    let both = |floor: usize, edge_floor: usize| Ok(EdgeFloor { floor, edge_floor });
+    assert_eq!(edge_floor(document("box")), both(7, 7));
+    assert_eq!(edge_floor(document("B1")), both(2, 2));
+    assert_eq!(edge_floor(document("west net")), both(2, 2));
+    // A box 2 long and 2 wide: west 1 1, and a net 2 that column 1 must pass too, north 2 and empty, south empty and 2; turned,
+    // south 1 1; and with net 2 on both north places.
+    assert_eq!(edge_floor(&[3, 2, 2, 7, 1, 2, 2, 2, 3, 1, 1]), both(2, 3));
+    assert_eq!(edge_floor(&[3, 2, 2, 14, 3, 1, 1, 2, 2, 1, 2]), both(2, 3));
+    assert_eq!(edge_floor(&[3, 2, 2, 5, 3, 2, 2, 3, 1, 1]), both(2, 4));
+    // A box 1 long and 2 wide: a net's pins west and east at one track count once, at two tracks twice.
+    assert_eq!(edge_floor(&[3, 1, 2, 12, 3, 1, 2, 3, 1, 2]), both(1, 1));
+    assert_eq!(edge_floor(&[3, 1, 2, 12, 3, 1, 2, 3, 2, 1]), both(3, 4));
+    assert_eq!(edge_floor(&[3, 4, 3, 0]), both(1, 1));
+    for name in ["R2", "C1"] {
+        assert_eq!(edge_floor(document(name)), both(0, 0), "{name}");
+    }
+    assert_eq!(edge_floor(&rings(4)), both(0, 0));
+}
+
 /// North 1, south 2, west 1, east 2.
 #[test]
 fn smallest_hardest_box() {
@@ -136,6 +157,13 @@ fn refused_tickets() {
     say(read(&[1, 2, 1, 1, 3, 1, 181]), "refused 7 at 6: the net number at byte 6 is none of 1 to 180");
     say(read(&[1, 2, 1, 0, 5]), "refused 8 at 4: bytes are left over from byte 4 on");
     say(read(document("T2")), "refused 9 at 1: net 1 has one pin only");
+}
+
+#[test]
+fn refused_edge_floors() {
+    say(edge_floor(document("T1")), "refused 1 at 6: the ticket ends after 6 bytes, before one that is needed");
+    say(edge_floor(document("T2")), "refused 9 at 1: net 1 has one pin only");
+    say(edge_floor(&[3, 1, 91, 0]), &read(&[3, 1, 91, 0]).unwrap_err().to_string());
 }
 
 #[test]

@@ -2,7 +2,7 @@
 
 use crate::read::{header, no_lone_net, read};
 use crate::tickets::{encode, slots, Places};
-use crate::{written, Pin, Refusal, Ticket, LARGEST_NET};
+use crate::{written, Pin, Refusal, Ticket, BOX, LARGEST_NET};
 
 /// What a flat ticket says, or its first refusal, with the places counted in its own bytes.
 pub fn read_flat(flat: &[u8]) -> Result<Ticket, Refusal> {
@@ -25,6 +25,11 @@ pub fn read_flat(flat: &[u8]) -> Result<Ticket, Refusal> {
     }
     no_lone_net(&pins)?;
     Ok(Ticket { kind, n, byte2, pins })
+}
+
+/// The box with these nets on its sides, 0 at an empty place.
+pub fn a_box(north: &[u8], south: &[u8], west: &[u8], east: &[u8]) -> Ticket {
+    read_flat(&[&[BOX, north.len() as u8, west.len() as u8], north, south, west, east].concat()).expect("a good flat ticket")
 }
 
 /// The nets by side and place.

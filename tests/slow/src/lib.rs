@@ -1,9 +1,11 @@
-//! A slow, independent reading of the scope document and of the requests: it reads and surveys tickets, judges wirings and
-//! lays them, writes the hardest box of a shape, turns tickets flat and back, and edits boards.
+//! A slow, independent reading of the scope document and of the requests: it reads and surveys tickets, counts the
+//! edge floors of boxes, judges wirings and lays them, writes the hardest box of a shape, turns tickets flat and back, and edits
+//! boards.
 //!
 //! Written from the documents alone; it shares no code with the crates. Refusals are a number and a place.
 
 pub mod board;
+pub mod edge;
 pub mod edits;
 pub mod flat;
 pub mod hardest;

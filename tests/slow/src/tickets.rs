@@ -267,6 +267,35 @@ pub fn side_nets(r: &mut Numbers) -> Vec<u8> {
     encode(BOX, n, w, &pins)
 }
 
+/// A box in which few nets have all places of most sides, one of them the most places of a side; nets of two pins have the rest, or
+/// nothing.
+pub fn few_nets(r: &mut Numbers) -> Vec<u8> {
+    let (longest, widest) = (r.pick(&[1, 3, 12, LONGEST_SIDE]), r.pick(&[1, 3, 12, LONGEST_SIDE]));
+    let (n, w) = (1 + r.below(longest), 1 + r.below(widest));
+    let mut names = names(r, LARGEST_NET as usize);
+    let few = names.split_off(names.len() - 1 - r.below(6));
+    let mut rest = Vec::new();
+    let mut pins = Places::new();
+    for side in [NORTH, SOUTH, WEST, EAST] {
+        let mut free: Vec<_> = (1..=places(side, n, w)).map(|i| (side, i)).collect();
+        r.shuffle(&mut free);
+        let tenths = r.pick(&[4, 9, 10, 10, 10]);
+        rest.extend(free.split_off((free.len() * tenths).div_ceil(10)));
+        let most = r.pick(&few);
+        pins.extend(free.into_iter().map(|place| (place, if r.below(10) > 0 { most } else { r.pick(&few) })));
+    }
+    for net in few {
+        if pins.values().filter(|m| **m == net).count() == 1 {
+            pins.retain(|_, m| *m != net);
+        }
+    }
+    if r.below(3) > 0 {
+        r.shuffle(&mut rest);
+        pins.extend(share_out(r, &mut rest, &mut names, true));
+    }
+    encode(BOX, n, w, &pins)
+}
+
 /// The tickets of the documents, by name; the last is request 6's.
 pub const DOCUMENT: [(&str, &[u8]); 15] = [
     ("R1", &[1, 6, 1, 1, 0x3f, 1, 2, 1, 3, 2, 3]),

@@ -1,13 +1,15 @@
 //! The counts and the floor of a box with nets that are all on one side; and no wiring of a small box has fewer layers than its
-//! floor.
+//! floor, or than its edge floor.
 
+use slow::edge::edge_floor;
+use slow::flat::a_box;
 use slow::judge::Grid;
 use slow::layers::fewest;
 use slow::read::read;
 use slow::survey::{all_on, figures, floor};
 use slow::tickets::{every, DOCUMENT};
 use slow::wirings::some_is_legal;
-use slow::{flat, Ticket, BOX, EAST, NORTH, SOUTH, WEST};
+use slow::{Ticket, BOX, EAST, NORTH, SOUTH, WEST};
 
 /// The floor before request 6: no column passed a net all west or all east, and no track one all south or all north.
 fn floor_before(t: &Ticket) -> usize {
@@ -17,12 +19,6 @@ fn floor_before(t: &Ticket) -> usize {
         figures(&Ticket { pins, ..t.clone() })
     };
     floor(t.n, t.byte2, without(WEST, EAST).across, without(SOUTH, NORTH).up)
-}
-
-/// The box with these nets on its sides, 0 at an empty place.
-fn a_box(north: &[u8], south: &[u8], west: &[u8], east: &[u8]) -> Ticket {
-    let flat = [&[BOX, north.len() as u8, west.len() as u8], north, south, west, east].concat();
-    read(&flat::unflatten(&flat).expect("a good flat ticket")).expect("a good ticket")
 }
 
 /// Across, up, floor, and the floor before, of boxes counted by hand.
@@ -79,34 +75,42 @@ fn every_box(n: usize, w: usize) -> Vec<Ticket> {
     every(BOX, n, w).iter().map(|t| read(t).expect("a good ticket")).collect()
 }
 
-/// Of every box of a shape: no wiring has fewer layers than the floor, and some wiring has no more than Lay. Given are how many
-/// boxes there are; how many have a higher floor than before, and how many of these a wiring with so many layers; how many of all
-/// have such a wiring; and the most layers that any needs above its floor.
-fn searched(n: usize, w: usize) -> [usize; 5] {
-    let tickets = every_box(n, w);
+/// How a bound stands to the fewest layers of each box: how many boxes have a higher one than a weaker bound says, and how many of
+/// these a wiring with so many layers; how many of all have such a wiring; and the most layers that any needs above the bound.
+fn reached(boxes: &[(Ticket, usize)], bound: fn(&Ticket) -> usize, weaker: fn(&Ticket) -> usize) -> [usize; 4] {
     let [mut higher, mut higher_reached, mut reached, mut most_above] = [0; 4];
-    for t in &tickets {
-        let (f, least) = (figures(t), fewest(t));
-        assert!(f.floor <= least && least <= f.layers, "{least} layers of {t:?}");
-        let (is_higher, is_reached) = (f.floor > floor_before(t), f.floor == least);
+    for (t, least) in boxes {
+        let bound = bound(t);
+        assert!(weaker(t) <= bound && bound <= *least, "{bound} of {least} layers of {t:?}");
+        let (is_higher, is_reached) = (weaker(t) < bound, bound == *least);
         higher += usize::from(is_higher);
         higher_reached += usize::from(is_higher && is_reached);
         reached += usize::from(is_reached);
-        most_above = most_above.max(least - f.floor);
+        most_above = most_above.max(least - bound);
     }
-    [tickets.len(), higher, higher_reached, reached, most_above]
+    [higher, higher_reached, reached, most_above]
+}
+
+/// Of every box of a shape: no wiring has fewer layers than the floor or than the edge floor, and some wiring has no more than Lay.
+/// Given are how many boxes there are; how the floor stands to the fewest layers, beside the one before; and how the edge floor
+/// does, beside the floor.
+fn searched(n: usize, w: usize) -> (usize, [usize; 4], [usize; 4]) {
+    let boxes: Vec<(Ticket, usize)> = every_box(n, w).into_iter().map(|t| (t.clone(), fewest(&t))).collect();
+    boxes.iter().for_each(|(t, least)| assert!(*least <= figures(t).layers, "{least} layers of {t:?}"));
+    let floor = |t: &Ticket| figures(t).floor;
+    (boxes.len(), reached(&boxes, floor, floor_before), reached(&boxes, edge_floor, floor))
 }
 
 #[test]
-fn no_wiring_of_one_column_or_track_has_fewer_layers_than_the_floor() {
-    assert_eq!(searched(1, 1), [15, 0, 0, 15, 0]);
-    assert_eq!([searched(1, 2), searched(2, 1)], [[203, 4, 4, 121, 1]; 2]);
-    assert_eq!([searched(1, 3), searched(3, 1)], [[4140, 20, 20, 2118, 1]; 2]);
+fn no_wiring_of_one_column_or_track_has_fewer_layers_than_the_floors() {
+    assert_eq!(searched(1, 1), (15, [0, 0, 15, 0], [0, 0, 15, 0]));
+    assert_eq!([searched(1, 2), searched(2, 1)], [(203, [4, 4, 121, 1], [78, 78, 199, 1]); 2]);
+    assert_eq!([searched(1, 3), searched(3, 1)], [(4140, [20, 20, 2118, 1], [1824, 1824, 3942, 1]); 2]);
 }
 
 #[test]
-fn no_wiring_of_two_columns_and_tracks_has_fewer_layers_than_the_floor() {
-    assert_eq!(searched(2, 2), [4140, 209, 171, 2226, 2]);
+fn no_wiring_of_two_columns_and_tracks_has_fewer_layers_than_the_floors() {
+    assert_eq!(searched(2, 2), (4140, [209, 171, 2226, 2], [1311, 987, 3213, 2]));
 }
 
 /// A ticket and a number of layers with more wirings are not tried.

@@ -2,7 +2,7 @@
 //!
 //! Lay is held against plain code for the same construction and, as the limit to look at, against memset of the bytes that it
 //! writes; of two-layer channels against Lay of a channel; Check against a plain flood fill of the same wiring; a ticket that is
-//! written, or turned flat and back, against reading it; a board that is edited against a survey of its ticket.
+//! written, or turned flat and back, against reading it; the edge floor of a ticket, and a board that is edited, against a survey.
 
 mod board;
 mod flood;
@@ -10,7 +10,8 @@ mod plain;
 mod wirings;
 
 use flood::Flood;
-use pozqaben::{check_with, flatten_into, hardest_box_into, lay_into, read, survey, unflatten_into, LONGEST_FLAT, LONGEST_TICKET};
+use pozqaben::{check_with, edge_floor, flatten_into, hardest_box_into, lay_into, read, survey, unflatten_into};
+use pozqaben::{LONGEST_FLAT, LONGEST_TICKET};
 use slow::tickets::{a_net_less, a_pin_less, encode, of_shape, rings, slots, Numbers, Places};
 use slow::{BOX, CHANNEL, LONGEST_SIDE, MOST_LAYERS, ROW, TWO_LAYER};
 use std::cell::{Cell, RefCell, RefMut};
@@ -171,7 +172,8 @@ fn check_table(r: &mut Numbers) {
 }
 
 fn call_table(r: &mut Numbers) {
-    println!("\n| ticket | bytes | read, calls a second | survey, calls a second |\n|---|---|---|---|");
+    println!("\n| ticket | bytes | read, calls a second | survey, calls a second | edge floor, calls a second | edge floor / survey |");
+    println!("|---|---|---|---|---|---|");
     let side = LONGEST_SIDE;
     let shapes = [
         ("box 4 × 1", BOX, 4, 1),
@@ -190,8 +192,12 @@ fn call_table(r: &mut Numbers) {
         let surveying = &mut || {
             black_box(survey(black_box(&ticket))).expect("a good ticket");
         };
-        let [reading, surveying] = seconds_of([reading, surveying]);
-        println!("| {name} | {} | {:.0} | {:.0} |", ticket.len(), 1.0 / reading, 1.0 / surveying);
+        let counting = &mut || {
+            black_box(edge_floor(black_box(&ticket))).expect("a good ticket");
+        };
+        let times = seconds_of([reading, surveying, counting]);
+        let [a, b, c] = times.map(|time| 1.0 / time);
+        println!("| {name} | {} | {a:.0} | {b:.0} | {c:.0} | {:.2} |", ticket.len(), b / c);
     }
 }
 

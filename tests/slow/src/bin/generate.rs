@@ -8,7 +8,7 @@ use slow::judge::{self, Grid};
 use slow::records::{hash, row, RECORD_BUFFER, STAIN};
 use slow::tickets::{self, damaged, encode, of_shape, slots, Numbers, Places, DOCUMENT};
 use slow::wirings::{case, layered, spoiled, wired, Case};
-use slow::{flat, hardest, lay, no_kind, places, read, survey, two_layer, Refusal, Ticket};
+use slow::{edge, flat, hardest, lay, no_kind, places, read, survey, two_layer, Refusal, Ticket};
 use slow::{BOX, CHANNEL, EAST, NORTH, ROW, SOUTH, TWO_LAYER, WEST};
 use slow::{LARGEST_NET, LONGEST_FLAT, LONGEST_SIDE, LONGEST_TICKET, MOST_LAYERS, MOST_TRUNK_LAYERS, WIDEST_CHANNEL, WIDEST_GRID};
 use std::path::Path;
@@ -146,6 +146,65 @@ fn survey_tickets() -> Vec<Vec<u8>> {
         out.push(if r.below(3) == 0 { damaged(r, &t) } else { t });
     }
     out.extend(side_boxes(r, 120));
+    out
+}
+
+/// Boxes in which one net has all places of a side: alone, with a net that has the opposite side, and with nets at the ends of a side
+/// between the two, where they cross the first and the last line.
+fn one_net_sides(n: usize, w: usize) -> Vec<Vec<u8>> {
+    let all = |side: usize, net: u8| -> Places { (1..=places(side, n, w)).map(|i| ((side, i), net)).collect() };
+    let mut out = Vec::new();
+    for (side, opposite, between) in [(NORTH, SOUTH, EAST), (SOUTH, NORTH, WEST), (WEST, EAST, SOUTH), (EAST, WEST, NORTH)] {
+        // A side of one place has no net of its own.
+        if places(side, n, w) == 1 {
+            continue;
+        }
+        let mut both = all(side, 1);
+        both.extend(all(opposite, 2));
+        let mut crossed = all(side, 1);
+        let last = places(between, n, w);
+        if last > 3 {
+            crossed.extend([(1, 2), (2, 2), (last - 1, 3), (last, 3)].map(|(i, net)| ((between, i), net)));
+        }
+        out.extend([all(side, 1), both, crossed].map(|pins| encode(BOX, n, w, &pins)));
+    }
+    out.dedup();
+    out
+}
+
+/// Tickets of all kinds, empty and full, and with each of Read's refusals; every box of the smallest shapes; and boxes with many pins
+/// of few nets on a side, of the longest sides too, whose edge floor is often above the floor.
+fn edge_floor_tickets() -> Vec<Vec<u8>> {
+    let r = &mut Numbers::new(101);
+    let mut out = vec![vec![]];
+    out.extend(document());
+    out.push(vec![0; 1000]);
+    out.extend(refused_tickets());
+    let (side, most) = (LONGEST_SIDE, MOST_TRUNK_LAYERS);
+    let trunks = [(ROW, side, 1), (ROW, 12, most), (CHANNEL, side, 1), (CHANNEL, 12, most)];
+    let boxes =
+        [(1, 1), (5, 1), (1, 5), (side, side), (side, 1), (1, side), (40, 12), (12, 40), (side - 1, side)].map(|(n, w)| (BOX, n, w));
+    for (kind, n, byte2) in trunks.into_iter().chain(boxes) {
+        out.extend([0, 5, 10].map(|tenths| of_shape(r, kind, n, byte2, tenths)));
+    }
+    for (n, w) in [(1, 1), (1, 2), (2, 1), (3, 4), (40, 12), (1, side), (side, 1), (side, side)] {
+        let one_net = slots(BOX, n, w).into_iter().map(|place| (place, LARGEST_NET)).collect();
+        out.extend([hardest::ticket(n, w), encode(BOX, n, w, &one_net)]);
+        out.extend(one_net_sides(n, w));
+    }
+    for (a, b) in [(NORTH, EAST), (NORTH, WEST), (SOUTH, EAST), (SOUTH, WEST)] {
+        out.extend([(9, 7), (5, 11)].map(|(n, w)| tickets::corner(r, n, w, a, b)));
+    }
+    for (n, w, step) in [(1, 1, 1), (1, 2, 1), (2, 1, 1), (1, 3, 29), (3, 1, 29), (2, 2, 11)] {
+        out.extend(tickets::every(BOX, n, w).into_iter().step_by(step));
+    }
+    out.extend(two_layers(r).into_iter().step_by(3));
+    out.extend(side_boxes(r, 20).into_iter().step_by(2));
+    out.extend((0..250).map(|_| tickets::few_nets(r)));
+    for _ in 0..60 {
+        let t = if r.below(2) == 0 { tickets::random(r) } else { tickets::few_nets(r) };
+        out.push(damaged(r, &t));
+    }
     out
 }
 
@@ -858,7 +917,7 @@ fn board_records(calls: &[Call]) -> Vec<u8> {
 /// What each program reads and must print.
 fn vectors() -> Vec<(&'static str, Vec<u8>, String)> {
     let (reads, surveys, checks, lays, boxes) = (read_tickets(), survey_tickets(), check_cases(), lay_cases(), hardest_cases());
-    let turns = flat_cases();
+    let (edges, turns) = (edge_floor_tickets(), flat_cases());
     let boards = board_records(&board_calls());
     let board_lines = edits::run(&boards);
     let records = |list: &[Vec<u8>]| list.iter().flat_map(|t| record(t)).collect();
@@ -867,6 +926,7 @@ fn vectors() -> Vec<(&'static str, Vec<u8>, String)> {
     vec![
         ("read_vectors", records(&reads), reads.iter().map(|t| row(&read::answer(t))).collect()),
         ("survey_vectors", records(&surveys), surveys.iter().map(|t| survey::line(t)).collect()),
+        ("edge_floor_vectors", records(&edges), edges.iter().map(|t| row(&edge::answer(t))).collect()),
         ("check_vectors", checks.iter().flat_map(check_record).collect(), checks.iter().map(verdict).collect()),
         ("lay_vectors", lays.iter().flat_map(lay_record).collect(), lays.iter().map(lay_row).collect()),
         ("hardest_vectors", boxes.iter().flat_map(hardest_record).collect(), every_hardest() + &hardest_rows),
