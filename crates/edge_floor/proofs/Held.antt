@@ -17,7 +17,7 @@ use Rattle.terms.specs.Limits.{largestNet}
 use Rattle.grid.specs.Legal.{entry}
 use Rattle.nets.specs.Tables.{pinCountTo, holdsAt, NetTable}
 use Rattle.nets.proofs.Tabling.{Table, empty, table-none, table-more}
-use Rattle.edge_floor.specs.Needs.{at}
+use Rattle.figures.specs.Crossings.{at}
 
 pub none-or-one : (b : Bool) {z : ℕ} → z ≡ cond b 0 1 → z ≤ 1
 none-or-one true e = omega (arith, e)

@@ -21,9 +21,10 @@ use Rattle.density.specs.EdgeFloor.{pinBeside, pinsBeside, needAt, columnNeed, 
 use Rattle.nets.specs.Spans.{Reach}
 use Rattle.nets.specs.Tables.{pinCountTo, holdsAt, lowOf, highOf, NetTable}
 use Rattle.nets.proofs.Reach.{reach-columns, reach-tracks}
+use Rattle.figures.specs.Crossings.{at}
 use Rattle.figures.proofs.Entries.{one-if, one-most}
 use Rattle.figures.proofs.Passes.{passes-reach}
-use Rattle.edge_floor.specs.Needs.{at, over, isOther, needFrom, otherFrom, EndsOf, MostNeed}
+use Rattle.edge_floor.specs.Needs.{over, isOther, needFrom, otherFrom, EndsOf, MostNeed}
 
 -- ---- one net
 

@@ -1,7 +1,6 @@
 -- What the functions that compute the edge floor keep: what the first and the last column need, from the table of spans. No promise of a
 -- public call cites it; proofs/Needs ties it to `columnNeed` and `trackNeed`.
 --
---   at list i               entry i of a list, counted from 0 as the code does
 --   over low high c         whether a net whose least and greatest place along the grid are low and high must pass column c
 --   netNeed first last near far beside past c
 --                           what column c needs for a net, from its first and last column, from how many pins it has on the near and on the
@@ -20,17 +19,14 @@ use mathlib.Core.Path.{_≡_}
 use mathlib.Core.Bool.{Bool, _&&_}
 use mathlib.Core.List.{List}
 use lib.Dec.{eqb, leb, ltb}
-use lib.ListN.{getD}
 use Rattle.counting.specs.Counting.{In, bit, most}
 use Rattle.terms.specs.Limits.{longestSide, tableSum}
 use Rattle.grid.specs.Grid.{upright}
 use Rattle.grid.specs.Legal.{entry, pinsOf}
 use Rattle.density.specs.Density.{boxAcross, up}
 use Rattle.density.specs.EdgeFloor.{columnNeed, trackNeed}
+use Rattle.figures.specs.Crossings.{at}
 use Rattle.nets.specs.Tables.{pinCountTo, firstHeld, lastHeld, lowOf, highOf, NetTable, Numbered}
-
-abbrev pub at : List ℕ → ℕ → ℕ
-at list i = getD list i 0
 
 abbrev pub over : ℕ → ℕ → ℕ → Bool
 over low high c = leb low c && leb c high && ltb low high

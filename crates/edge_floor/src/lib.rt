@@ -26,8 +26,8 @@ ghost use Rattle.terms.specs.Kinds.{box};
 ghost use Rattle.grid.specs.Legal.{entry};
 ghost use Rattle.problem.specs.Problem.{Good};
 ghost use Rattle.nets.specs.Tables.{NetTable, Numbered, SpansOf, holdsAt};
-ghost use Rattle.figures.specs.Crossings.{tablesOf, spansFrom};
-ghost use Rattle.edge_floor.specs.Needs.{at, over, isOther, needFrom, EndsOf, MostNeed};
+ghost use Rattle.figures.specs.Crossings.{at, tablesOf, spansFrom};
+ghost use Rattle.edge_floor.specs.Needs.{over, isOther, needFrom, EndsOf, MostNeed};
 ghost use Rattle.edge_floor.specs.Floors.{answered, refused, TellsFloors};
 
 pub struct EdgeFloorAnswer {

@@ -7,7 +7,7 @@ use borrow.Author.Needs.{needs}
 use Rattle.counting.specs.Counting.{sum}
 use Rattle.terms.specs.Limits.{largestNet, byteValues}
 use Rattle.grid.specs.Legal.{entry}
-use Rattle.edge_floor.specs.Needs.{at}
+use Rattle.figures.specs.Crossings.{at}
 use Rattle.edge_floor.proofs.Held.{one-side, two-sides}
 use Rattle.edge_floor.proofs.Needs.{needs-one, needs-two}
 use Rattle.edge_floor.proofs.most_need.Statement.{statement}

@@ -7,7 +7,8 @@ use borrow.Author.Needs.{needs}
 use Rattle.counting.specs.Counting.{bit, sum, count}
 use Rattle.counting.proofs.Sums.{sum-none, sum-more, sum-grows}
 use Rattle.terms.specs.Limits.{largestNet}
-use Rattle.edge_floor.specs.Needs.{at, otherFrom}
+use Rattle.figures.specs.Crossings.{at}
+use Rattle.edge_floor.specs.Needs.{otherFrom}
 use Rattle.edge_floor.proofs.Needs.{two-sums}
 use Rattle.edge_floor.proofs.need_at.Statement.{statement}
 use Rattle.edge_floor.proofs.need_at.Tie as tie
