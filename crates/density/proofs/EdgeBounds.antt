@@ -60,7 +60,7 @@ module _ (g : Grid) (p : Pins) (x : Wiring) (y : Legal g p x) (two : Several g p
       out east c m j (λ i k l t. (t .0 ∙ sym at, t .1, t .2)) i (eqb-true (p east j) m q) h)
       (or-in (eqb c 1 && eqb (p west j) m) (eqb c (g .n) && eqb (p east j) m) e))
 
-  pub column-fits : (c : ℕ) → In c (g .n) → columnNeed g p c ≤ horizontals g * g .w
+  column-fits : (c : ℕ) → In c (g .n) → columnNeed g p c ≤ horizontals g * g .w
   unfolding columnNeed
   column-fits c i =
       held-all horizontal (x c) (g .w) (g .k) (needAt g p (columnOf g) west east (g .n) c) largestNet
@@ -76,7 +76,7 @@ module _ (g : Grid) (p : Pins) where
   most-turned : most (trackNeed g p) (g .w) ≡ most (columnNeed (turned g) (movedPins turn p)) (g .w)
   most-turned = most-same _ _ (g .w) (λ c i. track-turned c)
 
-pub track-fits : (g : Grid) (p : Pins) (x : Wiring) → Legal g p x → Several g p → (c : ℕ) → In c (g .w)
+track-fits : (g : Grid) (p : Pins) (x : Wiring) → Legal g p x → Several g p → (c : ℕ) → In c (g .w)
     → trackNeed g p c ≤ verticals g * g .n
 track-fits g p x y two c i = rw (track-turned g p c, verticals-are g, ← horizontals-are (turned g))
     (column-fits (turned g) (movedPins turn p) (movedWiring turn x) (turn-legal g p x .0 y)
@@ -121,11 +121,11 @@ unfolding floor
 floor-grows a b c d h k = max-grows (omega arith) (max-grows (omega arith) (max-grows (omega arith) (omega arith)))
 
 module _ (g : Grid) (p : Pins) where
-  pub across-le : boxAcross g p ≤ most (columnNeed g p) (g .n)
+  across-le : boxAcross g p ≤ most (columnNeed g p) (g .n)
   unfolding boxAcross columnNeed
   across-le = most-grows _ _ (g .n) (λ c i. sum-le _ (needAt g p (columnOf g) west east (g .n) c) largestNet (λ m h. omega arith))
 
-  pub up-le : up g p ≤ most (trackNeed g p) (g .w)
+  up-le : up g p ≤ most (trackNeed g p) (g .w)
   unfolding up trackNeed
   up-le = most-grows _ _ (g .w) (λ c i. sum-le _ (needAt g p (trackOf g) south north (g .w) c) largestNet (λ m h. omega arith))
 

@@ -30,7 +30,8 @@ use Rattle.edge_floor.specs.Needs.{over, isOther, needFrom, otherFrom, E
 
 -- whether a column must pass it, as the code has it
 pub other-is : (first last near far beside past c : ℕ) {low high i : ℕ} {o t : Bool} → low ≡ lowOf first near far past
-    → high ≡ highOf last far past → o ≡ over low high c → t ≡ (eqb beside 0 && o) → i ≡ cond t 1 0 → (i ≡ bit (isOther first last near far beside past c)) × (i ≤ 1)
+    → high ≡ highOf last far past → o ≡ over low high c → t ≡ (eqb beside 0 && o) → i ≡ cond t 1 0
+    → (i ≡ bit (isOther first last near far beside past c)) × (i ≤ 1)
 other-is first last near far beside past c {t = t} el eh eo et ei = (
   ei ∙ one-if t ∙ ap bit (et ∙ ap (λ (o : Bool). eqb beside 0 && o) (eo ∙ ap₂ (λ (a b : ℕ). over a b c) el eh)),
   one-most t ei,
