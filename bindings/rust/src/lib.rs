@@ -1,7 +1,9 @@
 //! Pozqaben: reads and surveys tickets, counts the edge floor of a box, lays wirings, checks wirings that anybody drew, shows a
-//! layer of one, writes the hardest box of a shape, and turns tickets flat and back.
+//! layer of one, writes the hardest box of a shape, and turns tickets flat and back. And it searches for wirings of boxes on fewer
+//! layers.
 //!
-//! A safe wrapper of the calls that the repository proves. A ticket is bytes; a wiring is a buffer that holds point
+//! A safe wrapper of the calls that the repository proves, but for the search, which is not proved: a wiring that it found is one
+//! that the proved `check` has accepted. A ticket is bytes; a wiring is a buffer that holds point
 //! (i, j, l), counted from 1, at ((l - 1) * w + (j - 1)) * n + i - 1, a net's number or 0. A flat ticket is bytes 0 to 2 of a
 //! ticket and then a byte for every place of every side that the kind has, north, south, west, east: a net's number or 0.
 //!
@@ -13,14 +15,23 @@
 //! let refusal = pozqaben::read(&[1, 2, 1, 1, 3, 1, 2]).unwrap_err();
 //! assert_eq!(refusal.to_string(), "refused 9 at 1: net 1 has one pin only");
 //! assert_eq!(pozqaben::unflatten(&[2, 2, 1, 1, 2, 2, 1]).unwrap(), ticket); // the channel, flat
+//!
+//! let squeezed = pozqaben::squeeze(&pozqaben::hardest_box(8, 4).unwrap(), pozqaben::Effort::default(), &mut |_| {}).unwrap();
+//! assert_eq!(squeezed.to_string(), "5 layers found, floor 5: no legal wiring has fewer");
 //! ```
 
 use std::fmt;
 
 pub mod raw;
 mod refusal;
+mod search;
+mod squeeze;
+mod wiring;
 
 pub use refusal::Refusal;
+pub use search::{search, search_with, Effort, Outcome, Progress, SearchError};
+pub use squeeze::{squeeze, Known, Squeezed};
+pub use wiring::{NoWiring, Wiring};
 
 /// The most places of a side: n, and the width of a box.
 pub const LONGEST_SIDE: usize = 90;

@@ -13,6 +13,8 @@ pub struct Refusal {
 impl Refusal {
     /// The number of a wiring buffer that is too short; the place is the length needed.
     pub const SHORT_BUFFER: u8 = 10;
+    /// The number of a wiring whose length is not n * w * k; the place is that length.
+    pub const WRONG_LENGTH: u8 = 12;
 
     /// What the number means, with the place in it.
     pub fn meaning(&self) -> String {
@@ -42,7 +44,7 @@ impl Refusal {
                  (of 1 to {WIDEST_GRID} for a two-layer channel and in a layer view), or k none of 1 to {MOST_LAYERS}, \
                  or w is not the box's own"
             ),
-            12 => format!("the wiring's length is not n * w * k, which is {place}"),
+            Self::WRONG_LENGTH => format!("the wiring's length is not n * w * k, which is {place}"),
             13 => format!("the scratch is shorter than the {place} bytes that it must have"),
             14 => format!("the point at byte {place} of the wiring holds no net of the ticket"),
             15 => format!("net {place} is not in one piece"),
