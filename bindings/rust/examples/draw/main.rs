@@ -1,12 +1,20 @@
 //! A picture of a ticket's wiring: `cargo run --example draw < ticket > wiring.svg` lays the ticket and draws each layer as a
-//! panel, track 1 at the bottom, with the pins that the layer reaches.
+//! panel, track 1 at the bottom, with the pins that the layer reaches. With the name of a wiring's file, as `squeeze` writes it,
+//! that wiring is drawn, if it is legal for the ticket. The exit code is 1 for what is refused and 2 for more words than a name.
 
 mod svg;
 
-use pozqaben::{lay, layer_view, survey, Kind, Laid, Refusal, Survey};
+use pozqaben::{lay, survey, Kind, Survey, Wiring};
 use slow::{no_side, Pin, EAST, NORTH, SOUTH, WEST};
+use std::error::Error;
+use std::ffi::OsString;
+use std::fmt::Display;
 use std::io::{Read, Write};
+use std::process::ExitCode;
 use svg::{Picture, Point};
+
+const FAILED: u8 = 1;
+const MISUSED: u8 = 2;
 
 const CELL: usize = 15; // between neighbouring columns and tracks
 const EDGE: usize = 20; // room for a panel's pins
@@ -17,7 +25,7 @@ const WIDEST: usize = 1320; // as many panels stand in a row as fit this
 
 /// One layer: its points, the wiring's layers before and after it (empty at the ends), its pins, and where it is drawn.
 struct Panel<'a> {
-    laid: Laid,
+    wiring: &'a Wiring,
     layer: usize,
     points: &'a [u8],
     before: &'a [u8],
@@ -28,22 +36,22 @@ struct Panel<'a> {
 
 impl Panel<'_> {
     fn is_horizontal(&self) -> bool {
-        (self.layer % 2 == 1) == self.laid.first
+        (self.layer % 2 == 1) == self.wiring.first
     }
 
     fn net(&self, points: &[u8], (i, j): Point) -> u8 {
-        points.get((j - 1) * self.laid.n + i - 1).copied().unwrap_or(0)
+        points.get((j - 1) * self.wiring.n + i - 1).copied().unwrap_or(0)
     }
 
     /// Where point (i, j) is drawn.
     fn at(&self, (i, j): Point) -> Point {
         let (x, y) = self.corner;
-        (x + EDGE + (i - 1) * CELL + CELL / 2, y + TITLE + EDGE + (self.laid.w - j) * CELL + CELL / 2)
+        (x + EDGE + (i - 1) * CELL + CELL / 2, y + TITLE + EDGE + (self.wiring.w - j) * CELL + CELL / 2)
     }
 
     /// The layer's lines: tracks or columns, each a list of points.
     fn lines(&self) -> Vec<Vec<Point>> {
-        let (n, w) = (self.laid.n, self.laid.w);
+        let (n, w) = (self.wiring.n, self.wiring.w);
         if self.is_horizontal() {
             return (1..=w).map(|j| (1..=n).map(|i| (i, j)).collect()).collect();
         }
@@ -54,7 +62,7 @@ impl Panel<'_> {
         let (x, y) = self.corner;
         let direction = if self.is_horizontal() { "horizontal" } else { "vertical" };
         picture.words((x + EDGE, y + TITLE / 2), &format!("layer {}, {direction}", self.layer));
-        picture.frame((x + EDGE, y + TITLE + EDGE), self.laid.n * CELL, self.laid.w * CELL);
+        picture.frame((x + EDGE, y + TITLE + EDGE), self.wiring.n * CELL, self.wiring.w * CELL);
         self.pins.iter().for_each(|p| self.draw_pin(picture, p));
         for (index, line) in self.lines().iter().enumerate() {
             for run in line.chunk_by(|a, b| self.net(self.points, *a) == self.net(self.points, *b)) {
@@ -68,7 +76,7 @@ impl Panel<'_> {
         if (p.side == WEST || p.side == EAST) != self.is_horizontal() {
             return;
         }
-        let (n, w) = (self.laid.n, self.laid.w);
+        let (n, w) = (self.wiring.n, self.wiring.w);
         let beside = match p.side {
             NORTH => (p.place, w),
             SOUTH => (p.place, 1),
@@ -119,33 +127,52 @@ fn bound(s: &Survey) -> String {
     }
 }
 
-fn picture(ticket: &[u8]) -> Result<String, Refusal> {
+/// The picture of a legal wiring of the ticket; `source` says where it is from, if it was not laid.
+fn picture(ticket: &[u8], wiring: &Wiring, source: &str) -> Result<String, Box<dyn Error>> {
     let figures = survey(ticket)?;
-    let (laid, wiring) = lay(ticket)?;
-    let pins = slow::read::read(ticket).expect("a ticket that was laid").pins;
-    let (width, height) = (laid.n * CELL + 2 * EDGE + GAP, TITLE + laid.w * CELL + 2 * EDGE + GAP);
-    let in_a_row = (WIDEST / width).clamp(1, laid.k);
-    let layer = |l: usize| layer_view(&wiring, laid.n, laid.w, laid.k, l).unwrap_or(&[]);
+    let pins = slow::read::read(ticket).expect("a ticket that was surveyed").pins;
+    let &Wiring { n, w, k, .. } = wiring;
+    let (width, height) = (n * CELL + 2 * EDGE + GAP, TITLE + w * CELL + 2 * EDGE + GAP);
+    let in_a_row = (WIDEST / width).clamp(1, k);
+    let layer = |l: usize| wiring.layer(l).unwrap_or(&[]);
     let mut picture = Picture::new();
     picture.words((GAP, 16), &figures.to_string());
-    picture.words((GAP, 34), &bound(&figures));
+    picture.words((GAP, 34), &format!("{source}{}", bound(&figures)));
     picture.words((GAP, 52), "Dot: via to the next layer. Ring: via to the layer before. Boxes: the pins that a layer reaches.");
-    for l in 1..=laid.k {
+    for l in 1..=k {
         let corner = (GAP + (l - 1) % in_a_row * width, CAPTION + (l - 1) / in_a_row * height);
-        let panel = Panel { laid, layer: l, points: layer(l), before: layer(l - 1), after: layer(l + 1), pins: &pins, corner };
+        let panel = Panel { wiring, layer: l, points: layer(l), before: layer(l - 1), after: layer(l + 1), pins: &pins, corner };
         panel.draw(&mut picture);
     }
-    Ok(picture.finished((GAP + in_a_row * width).max(640), CAPTION + laid.k.div_ceil(in_a_row) * height))
+    Ok(picture.finished((GAP + in_a_row * width).max(640), CAPTION + k.div_ceil(in_a_row) * height))
 }
 
-fn main() {
+/// The picture of the wiring that is laid, or of the file's, which Check has to accept.
+fn drawn(ticket: &[u8], file: Option<&OsString>) -> Result<String, Box<dyn Error>> {
+    let Some(file) = file else {
+        return picture(ticket, &Wiring::from(lay(ticket)?), "");
+    };
+    let wiring = Wiring::from_file(&std::fs::read(file)?)?;
+    wiring.check(ticket)?;
+    picture(ticket, &wiring, &format!("drawn here: {} tracks, {} layers; ", wiring.w, wiring.k))
+}
+
+fn ended(code: u8, why: impl Display) -> ExitCode {
+    eprintln!("{why}");
+    ExitCode::from(code)
+}
+
+fn main() -> ExitCode {
+    let words: Vec<OsString> = std::env::args_os().skip(1).collect();
+    if words.len() > 1 {
+        return ended(MISUSED, "usage: draw [WIRING] < ticket");
+    }
     let mut ticket = Vec::new();
-    std::io::stdin().read_to_end(&mut ticket).expect("standard input can be read");
-    match picture(&ticket) {
-        Ok(drawn) => std::io::stdout().write_all(drawn.as_bytes()).expect("standard output can be written"),
-        Err(refusal) => {
-            eprintln!("{refusal}");
-            std::process::exit(1);
-        }
+    let read = std::io::stdin().read_to_end(&mut ticket).map_err(Box::from);
+    let drawn = read.and_then(|_| drawn(&ticket, words.first()));
+    let mut out = std::io::stdout();
+    match drawn.and_then(|drawn| Ok(out.write_all(drawn.as_bytes()).and_then(|()| out.flush())?)) {
+        Ok(()) => ExitCode::SUCCESS,
+        Err(error) => ended(FAILED, error),
     }
 }
