@@ -2,11 +2,13 @@
 //!
 //! Lay is held against plain code for the same construction and, as the limit to look at, against memset of the bytes that it
 //! writes; of two-layer channels against Lay of a channel; Check against a plain flood fill of the same wiring; a ticket that is
-//! written, or turned flat and back, against reading it; the edge floor of a ticket, and a board that is edited, against a survey.
+//! written, or turned flat and back, against reading it; the edge floor of a ticket, and a board that is edited, against a survey;
+//! what a squeeze finds against the floor and what is laid.
 
 mod board;
 mod flood;
 mod plain;
+mod squeeze;
 mod wirings;
 
 use flood::Flood;
@@ -261,4 +263,5 @@ fn main() {
     written_table();
     flat_table(r);
     board::table();
+    squeeze::tables();
 }
