@@ -2,19 +2,17 @@
 //! panel, track 1 at the bottom, with the pins that the layer reaches. With the name of a wiring's file, as `squeeze` writes it,
 //! that wiring is drawn, if it is legal for the ticket. The exit code is 1 for what is refused and 2 for more words than a name.
 
+#[path = "../command/mod.rs"]
+mod command;
 mod svg;
 
+use command::{ended, input, words, written, FAILED, MISUSED};
 use pozqaben::{lay, survey, Kind, Survey, Wiring};
 use slow::{no_side, Pin, EAST, NORTH, SOUTH, WEST};
 use std::error::Error;
 use std::ffi::OsString;
-use std::fmt::Display;
-use std::io::{Read, Write};
 use std::process::ExitCode;
 use svg::{Picture, Point};
-
-const FAILED: u8 = 1;
-const MISUSED: u8 = 2;
 
 const CELL: usize = 15; // between neighbouring columns and tracks
 const EDGE: usize = 20; // room for a panel's pins
@@ -148,31 +146,23 @@ fn picture(ticket: &[u8], wiring: &Wiring, source: &str) -> Result<String, Box<d
 }
 
 /// The picture of the wiring that is laid, or of the file's, which Check has to accept.
-fn drawn(ticket: &[u8], file: Option<&OsString>) -> Result<String, Box<dyn Error>> {
+fn drawn(file: Option<&OsString>) -> Result<String, Box<dyn Error>> {
+    let ticket = input()?;
     let Some(file) = file else {
-        return picture(ticket, &Wiring::from(lay(ticket)?), "");
+        return picture(&ticket, &Wiring::from(lay(&ticket)?), "");
     };
     let wiring = Wiring::from_file(&std::fs::read(file)?)?;
-    wiring.check(ticket)?;
-    picture(ticket, &wiring, &format!("drawn here: {} tracks, {} layers; ", wiring.w, wiring.k))
-}
-
-fn ended(code: u8, why: impl Display) -> ExitCode {
-    eprintln!("{why}");
-    ExitCode::from(code)
+    wiring.check(&ticket)?;
+    picture(&ticket, &wiring, &format!("drawn here: {} tracks, {} layers; ", wiring.w, wiring.k))
 }
 
 fn main() -> ExitCode {
-    let words: Vec<OsString> = std::env::args_os().skip(1).collect();
+    let words = words();
     if words.len() > 1 {
-        return ended(MISUSED, "usage: draw [WIRING] < ticket");
+        return ended(MISUSED, "usage: draw [WIRING] < TICKET > PICTURE");
     }
-    let mut ticket = Vec::new();
-    let read = std::io::stdin().read_to_end(&mut ticket).map_err(Box::from);
-    let drawn = read.and_then(|_| drawn(&ticket, words.first()));
-    let mut out = std::io::stdout();
-    match drawn.and_then(|drawn| Ok(out.write_all(drawn.as_bytes()).and_then(|()| out.flush())?)) {
-        Ok(()) => ExitCode::SUCCESS,
+    match drawn(words.first()) {
+        Ok(picture) => written(picture.as_bytes()),
         Err(error) => ended(FAILED, error),
     }
 }

@@ -3,14 +3,12 @@
 //! each side, north, south, west, east, with a net or 0 for each place. With `--back` a ticket is read and written as such text.
 //! The exit code is 1 for a ticket that is refused and 2 for words that are no numbers of a byte.
 
-use pozqaben::{flatten, read, unflatten, Kind, Refusal};
-use std::ffi::OsString;
-use std::fmt::Display;
-use std::io::{Read, Write};
-use std::process::ExitCode;
+#[path = "../command/mod.rs"]
+mod command;
 
-const FAILED: u8 = 1;
-const MISUSED: u8 = 2;
+use command::{ended, input, words, written, FAILED, MISUSED};
+use pozqaben::{flatten, read, unflatten, Kind, Refusal};
+use std::process::ExitCode;
 
 /// Why nothing is written: the exit code and the words.
 struct Failure(u8, String);
@@ -56,30 +54,18 @@ fn turned(back: bool, input: &[u8]) -> Result<Vec<u8>, Failure> {
     Ok(unflatten(&bytes_of(input)?)?)
 }
 
-fn ended(code: u8, why: impl Display) -> ExitCode {
-    eprintln!("{why}");
-    ExitCode::from(code)
-}
-
 fn main() -> ExitCode {
-    let words: Vec<OsString> = std::env::args_os().skip(1).collect();
-    let back = match &words[..] {
+    let back = match &words()[..] {
         [] => false,
         [word] if word == "--back" => true,
         _ => return ended(MISUSED, "usage: flat < TEXT > TICKET, or flat --back < TICKET > TEXT"),
     };
-    let mut input = Vec::new();
-    if let Err(error) = std::io::stdin().read_to_end(&mut input) {
-        return ended(FAILED, error);
-    }
-    let written = match turned(back, &input) {
-        Ok(written) => written,
-        Err(Failure(code, why)) => return ended(code, why),
+    let input = match input() {
+        Ok(input) => input,
+        Err(error) => return ended(FAILED, error),
     };
-    // The stream may hold bytes back until the program ends, where nobody would see that they cannot be written.
-    let mut out = std::io::stdout();
-    match out.write_all(&written).and_then(|()| out.flush()) {
-        Ok(()) => ExitCode::SUCCESS,
-        Err(error) => ended(FAILED, error),
+    match turned(back, &input) {
+        Ok(bytes) => written(&bytes),
+        Err(Failure(code, why)) => ended(code, why),
     }
 }

@@ -3,16 +3,16 @@
 //! most nets that each search routes, and SEED that of its random numbers. The exit code is 1 for a ticket that is refused or a file
 //! that cannot be written, and 2 for other words than these.
 
+#[path = "../command/mod.rs"]
+mod command;
+
+use command::{ended, input, words, written, FAILED, MISUSED};
 use pozqaben::{squeeze, Effort, Progress, Squeezed};
 use std::error::Error;
 use std::ffi::OsString;
-use std::fmt::Display;
-use std::io::{Read, Write};
 use std::process::ExitCode;
 use std::time::{Duration, Instant};
 
-const FAILED: u8 = 1;
-const MISUSED: u8 = 2;
 /// Between two lines of one search.
 const PAUSE: Duration = Duration::from_secs(1);
 
@@ -67,8 +67,7 @@ impl Shown {
 }
 
 fn squeezed(file: &OsString, effort: Effort) -> Result<Squeezed, Box<dyn Error>> {
-    let mut ticket = Vec::new();
-    std::io::stdin().read_to_end(&mut ticket)?;
+    let ticket = input()?;
     let mut shown = Shown { start: Instant::now(), next: PAUSE, last: None };
     let squeezed = squeeze(&ticket, effort, &mut |p| shown.show(p))?;
     shown.give_up();
@@ -76,22 +75,13 @@ fn squeezed(file: &OsString, effort: Effort) -> Result<Squeezed, Box<dyn Error>>
     Ok(squeezed)
 }
 
-fn ended(code: u8, why: impl Display) -> ExitCode {
-    eprintln!("{why}");
-    ExitCode::from(code)
-}
-
 fn main() -> ExitCode {
-    let words: Vec<OsString> = std::env::args_os().skip(1).collect();
+    let words = words();
     let Some((file, effort)) = task(&words) else {
-        return ended(MISUSED, "usage: squeeze FILE [BUDGET [SEED]] < ticket");
+        return ended(MISUSED, "usage: squeeze WIRING [BUDGET [SEED]] < TICKET");
     };
-    let squeezed = match squeezed(file, effort) {
-        Ok(squeezed) => squeezed,
-        Err(error) => return ended(FAILED, error),
-    };
-    match writeln!(std::io::stdout(), "{squeezed}") {
-        Ok(()) => ExitCode::SUCCESS,
+    match squeezed(file, effort) {
+        Ok(squeezed) => written(format!("{squeezed}\n").as_bytes()),
         Err(error) => ended(FAILED, error),
     }
 }
