@@ -29,7 +29,7 @@ fn squeezed(t: &[u8], effort: Effort) -> Squeezed {
         assert_eq!(squeezed.known, Known::Layers { edge_floor: floors.edge_floor, laid: figures.layers }, "{t:?}");
         assert!(floors.edge_floor <= wiring.k && wiring.k <= figures.layers, "{t:?}");
         assert!(tried.is_sorted_by(|a, b| a >= b), "{t:?}");
-        assert!(tried.iter().all(|k| (floors.edge_floor..figures.layers).contains(k)), "{t:?}");
+        assert!(tried.iter().all(|k| (floors.edge_floor.max(wiring.k - 1)..figures.layers).contains(k)), "{tried:?} {t:?}");
     } else {
         assert!(tried.is_empty() && *wiring == Wiring::from(lay(t).unwrap()), "{t:?}");
     }
@@ -77,6 +77,13 @@ fn dense_box() {
     // Without a net routed, what is laid is the best.
     let none = squeezed(&t, Effort { budget: 0, seed: 1 });
     assert_eq!(none.to_string(), "12 layers laid, floor 9: whether 9 to 11 can be wired is not known");
+}
+
+/// On a budget of little more than a round, five layers are not found, and four not tried.
+#[test]
+fn gives_up_where_neither_first_direction_is_found() {
+    let squeezed = squeezed(&hardest_box(40, 40).unwrap(), Effort { budget: 85, seed: 1 });
+    assert_eq!(squeezed.to_string(), "6 layers laid, floor 4: whether 4 or 5 can be wired is not known");
 }
 
 #[test]

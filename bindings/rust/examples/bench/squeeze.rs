@@ -14,23 +14,23 @@ struct Line {
     edge_floor: usize,
     found: usize,
     laid: usize,
-    /// Until the best wiring was found, and until it was given up to find a better one.
-    found_ms: f64,
-    all_ms: f64,
+    /// Milliseconds until a wiring on so many layers was found, and until the end.
+    steps: Vec<(usize, f64)>,
+    ms: f64,
 }
 
 fn line(ticket: &[u8], effort: Effort) -> Line {
     let (figures, floors) = (survey(ticket).expect("a good ticket"), edge_floor(ticket).expect("a good ticket"));
     let start = processor_seconds();
     let ms = || (processor_seconds() - start) * 1e3;
-    let mut found_ms = 0.0;
+    let mut steps = Vec::new();
     let squeezed = squeeze(ticket, effort, &mut |p| {
         if p.conflicts == 0 {
-            found_ms = ms();
+            steps.push((p.k, ms()));
         }
     });
     let found = squeezed.expect("a good ticket").wiring.k;
-    Line { floor: floors.floor, edge_floor: floors.edge_floor, found, laid: figures.layers, found_ms, all_ms: ms() }
+    Line { floor: floors.floor, edge_floor: floors.edge_floor, found, laid: figures.layers, steps, ms: ms() }
 }
 
 /// Boxes of any shape up to the small side; each seed makes its own set.
@@ -44,8 +44,9 @@ fn small_boxes(seed: u64, tenths: impl Fn(&mut Numbers) -> usize) -> Vec<Vec<u8>
 }
 
 fn small_table() {
-    println!("\n| squeeze, {BOXES} boxes up to {SMALL_SIDE} × {SMALL_SIDE} | floor | edge floor | found | laid | found - floor, mean | found at floor, + 1, + 2, more | ms a box |");
-    println!("|---|---|---|---|---|---|---|---|");
+    let title = format!("squeeze, {BOXES} boxes up to {SMALL_SIDE} × {SMALL_SIDE}");
+    println!("\n| {title} | floor | edge floor | found | laid | mean distance | + 0, + 1, + 2, more | at edge floor | ms a box |");
+    println!("|---|---|---|---|---|---|---|---|---|");
     let sets = [
         ("all places filled, seed 1", small_boxes(1, |_| 10)),
         ("all places filled, seed 2", small_boxes(2, |_| 10)),
@@ -59,19 +60,20 @@ fn small_table() {
         let (floor, edge_floor, found, laid) = (sum(|l| l.floor), sum(|l| l.edge_floor), sum(|l| l.found), sum(|l| l.laid));
         let distance = (found - floor) as f64 / BOXES as f64;
         let counts = [above(0, 0), above(1, 1), above(2, 2), above(3, usize::MAX)].map(|c| c.to_string()).join(", ");
-        let ms = lines.iter().map(|l| l.all_ms).sum::<f64>() / BOXES as f64;
-        println!("| {name} | {floor} | {edge_floor} | {found} | {laid} | {distance:.2} | {counts} | {ms:.0} |");
+        let at_edge = lines.iter().filter(|l| l.found == l.edge_floor).count();
+        let ms = lines.iter().map(|l| l.ms).sum::<f64>() / BOXES as f64;
+        println!("| {name} | {floor} | {edge_floor} | {found} | {laid} | {distance:.2} | {counts} | {at_edge} | {ms:.0} |");
     }
 }
 
 fn large_table() {
-    println!("\n| squeeze | floor | found | laid | ms until found | ms until given up |\n|---|---|---|---|---|---|");
+    println!("\n| squeeze | floor | found | laid | ms until so many layers were found | ms in all |\n|---|---|---|---|---|---|");
     let dense = std::fs::read("../../examples/dense-40x12.ticket").expect("the program runs in bindings/rust");
     let full = |side: usize| hardest_box(side, side).expect("a shape");
     for (name, ticket) in [("dense 40 × 12", dense), ("full 40 × 40", full(40)), ("full 90 × 90", full(LONGEST_SIDE))] {
-        let Line { floor, found, laid, found_ms, all_ms, .. } = line(&ticket, Effort::default());
-        let given_up = if found == floor { "at the floor".to_string() } else { format!("{all_ms:.0}") };
-        println!("| {name} | {floor} | {found} | {laid} | {found_ms:.0} | {given_up} |");
+        let Line { floor, found, laid, steps, ms, .. } = line(&ticket, Effort::default());
+        let steps: Vec<String> = steps.iter().map(|(k, ms)| format!("{k}: {ms:.0}")).collect();
+        println!("| {name} | {floor} | {found} | {laid} | {} | {ms:.0} |", steps.join(", "));
     }
 }
 

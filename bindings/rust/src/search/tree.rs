@@ -12,8 +12,8 @@ pub struct Prices<'a> {
     pub random: &'a mut Random,
 }
 
-/// How a point was reached: while which tree grew, at what cost from the tree, and from which point; from itself where the tree or a
-/// pin that it joins is beside it.
+/// How a point was reached: while which tree grew, at what cost from the tree, and from which point; a point of the tree, and one that
+/// was reached from a pin, from itself.
 #[derive(Clone, Copy, Default)]
 struct Reached {
     tree: u32,
@@ -54,8 +54,9 @@ pub struct Trees {
     to_next_layer: usize,
     sites: Vec<Site>,
     reached: Vec<Reached>,
-    /// The last tree that had a pin to reach beside the point.
+    /// The tree that is to reach a pin beside the point.
     wanted: Vec<u32>,
+    /// Which tree grows, counted from 1.
     tree: u32,
     area: Area,
     /// By the cost so far and the steps to the area.
