@@ -125,8 +125,18 @@ fn bound(s: &Survey) -> String {
     }
 }
 
-/// The picture of a legal wiring of the ticket; `source` says where it is from, if it was not laid.
-fn picture(ticket: &[u8], wiring: &Wiring, source: &str) -> Result<String, Box<dyn Error>> {
+/// What is said of a wiring that was laid, or of another one, of which nothing is said that Lay promises.
+fn caption(s: &Survey, wiring: &Wiring, is_laid: bool) -> String {
+    let sizes = format!("drawn here: {} tracks, {} layers", wiring.w, wiring.k);
+    match s.kind {
+        _ if is_laid => bound(s),
+        Kind::TwoLayer => sizes,
+        Kind::Row | Kind::Channel | Kind::Box => format!("{sizes}; {}", bound(s)),
+    }
+}
+
+/// The picture of a legal wiring of the ticket.
+fn picture(ticket: &[u8], wiring: &Wiring, is_laid: bool) -> Result<String, Box<dyn Error>> {
     let figures = survey(ticket)?;
     let pins = slow::read::read(ticket).expect("a ticket that was surveyed").pins;
     let &Wiring { n, w, k, .. } = wiring;
@@ -135,7 +145,7 @@ fn picture(ticket: &[u8], wiring: &Wiring, source: &str) -> Result<String, Box<d
     let layer = |l: usize| wiring.layer(l).unwrap_or(&[]);
     let mut picture = Picture::new();
     picture.words((GAP, 16), &figures.to_string());
-    picture.words((GAP, 34), &format!("{source}{}", bound(&figures)));
+    picture.words((GAP, 34), &caption(&figures, wiring, is_laid));
     picture.words((GAP, 52), "Dot: via to the next layer. Ring: via to the layer before. Boxes: the pins that a layer reaches.");
     for l in 1..=k {
         let corner = (GAP + (l - 1) % in_a_row * width, CAPTION + (l - 1) / in_a_row * height);
@@ -149,11 +159,11 @@ fn picture(ticket: &[u8], wiring: &Wiring, source: &str) -> Result<String, Box<d
 fn drawn(file: Option<&OsString>) -> Result<String, Box<dyn Error>> {
     let ticket = input()?;
     let Some(file) = file else {
-        return picture(&ticket, &Wiring::from(lay(&ticket)?), "");
+        return picture(&ticket, &Wiring::from(lay(&ticket)?), true);
     };
     let wiring = Wiring::from_file(&std::fs::read(file)?)?;
     wiring.check(&ticket)?;
-    picture(&ticket, &wiring, &format!("drawn here: {} tracks, {} layers; ", wiring.w, wiring.k))
+    picture(&ticket, &wiring, false)
 }
 
 fn main() -> ExitCode {
