@@ -1,11 +1,12 @@
 //! Pozqaben: reads and surveys tickets, counts the edge floor of a box, lays wirings, checks wirings that anybody drew, shows a
 //! layer of one, writes the hardest box of a shape, and turns tickets flat and back. And it searches for wirings of boxes on fewer
-//! layers.
+//! layers, reads tickets as text, and writes wirings as pictures, GDSII and DEF.
 //!
-//! A safe wrapper of the calls that the repository proves, but for the search, which is not proved: a wiring that it found is one
-//! that the proved `check` has accepted. A ticket is bytes; a wiring is a buffer that holds point
-//! (i, j, l), counted from 1, at ((l - 1) * w + (j - 1)) * n + i - 1, a net's number or 0. A flat ticket is bytes 0 to 2 of a
-//! ticket and then a byte for every place of every side that the kind has, north, south, west, east: a net's number or 0.
+//! A safe wrapper of the calls that the repository proves. The search, the text and the layouts are not proved: a wiring that was
+//! found, or that a layout shows, is one that the proved `check` has accepted or `lay` has laid, and a text's ticket is what the proved
+//! `unflatten` makes of its words. A ticket is bytes; a wiring is a buffer that holds point (i, j, l), counted from 1, at
+//! ((l - 1) * w + (j - 1)) * n + i - 1, a net's number or 0. A flat ticket is bytes 0 to 2 of a ticket and then a byte for every
+//! place of every side that the kind has, north, south, west, east: a net's number or 0.
 //!
 //! ```
 //! let ticket = [2, 2, 1, 3, 3, 1, 2, 3, 2, 1]; // a channel: north 1 2, south 2 1
@@ -18,19 +19,29 @@
 //!
 //! let squeezed = pozqaben::squeeze(&pozqaben::hardest_box(8, 4).unwrap(), pozqaben::Effort::default(), &mut |_| {}).unwrap();
 //! assert_eq!(squeezed.to_string(), "5 layers found, floor 5: no legal wiring has fewer");
+//!
+//! let named = pozqaben::Ticket::from_file(b"channel 2 1  a b  b a").unwrap(); // the channel as text, with its nets' names
+//! assert_eq!((named.bytes(), named.name(2).as_str()), (&ticket[..], "b"));
+//! let gds = pozqaben::Layout::laid(&named).unwrap().gds(); // as KLayout opens it
+//! # assert!(gds.len() > 100);
 //! ```
 
 use std::fmt;
 
+mod layout;
+mod pins;
 pub mod raw;
 mod refusal;
 mod search;
 mod squeeze;
+mod ticket;
 mod wiring;
 
+pub use layout::Layout;
 pub use refusal::Refusal;
 pub use search::{search, search_with, Effort, Outcome, Progress, SearchError};
 pub use squeeze::{squeeze, Known, Squeezed};
+pub use ticket::{NoTicket, Position, Ticket};
 pub use wiring::{NoWiring, Wiring};
 
 /// The most places of a side: n, and the width of a box.
@@ -60,6 +71,29 @@ pub enum Kind {
 }
 
 impl Kind {
+    pub const ALL: [Kind; 4] = [Kind::Row, Kind::Channel, Kind::Box, Kind::TwoLayer];
+
+    /// Its name in lines and files.
+    pub const fn name(self) -> &'static str {
+        match self {
+            Kind::Row => "row",
+            Kind::Channel => "channel",
+            Kind::Box => "box",
+            Kind::TwoLayer => "two-layer",
+        }
+    }
+
+    /// Byte 0 of its tickets.
+    pub const fn byte(self) -> u8 {
+        let number = match self {
+            Kind::Row => raw::ROW,
+            Kind::Channel => raw::CHANNEL,
+            Kind::Box => raw::BOX,
+            Kind::TwoLayer => raw::TWO_LAYER,
+        };
+        number as u8
+    }
+
     /// The most tracks of a wiring of this kind that `check` takes; a box's are its own.
     pub const fn widest(self) -> usize {
         match self {
@@ -102,13 +136,15 @@ pub struct Survey {
 impl fmt::Display for Survey {
     fn fmt(&self, f: &mut fmt::Formatter) -> fmt::Result {
         let Survey { kind, n, w, nets, pins, across, up, layers, floor } = self;
+        let name = kind.name();
         match kind {
-            Kind::Row => write!(f, "row length {n} nets {nets} pins {pins} across {across} tracks {w} layers {layers}"),
-            Kind::Channel => write!(f, "channel length {n} nets {nets} pins {pins} across {across} tracks {w} layers {layers}"),
-            Kind::Box => {
-                write!(f, "box length {n} width {w} nets {nets} pins {pins} across {across} up {up} layers {layers} floor {floor}")
+            Kind::Row | Kind::Channel => {
+                write!(f, "{name} length {n} nets {nets} pins {pins} across {across} tracks {w} layers {layers}")
             }
-            Kind::TwoLayer => write!(f, "two-layer length {n} nets {nets} pins {pins} across {across} layers {layers}"),
+            Kind::Box => {
+                write!(f, "{name} length {n} width {w} nets {nets} pins {pins} across {across} up {up} layers {layers} floor {floor}")
+            }
+            Kind::TwoLayer => write!(f, "{name} length {n} nets {nets} pins {pins} across {across} layers {layers}"),
         }
     }
 }
@@ -149,13 +185,8 @@ impl Laid {
 
 /// The kind of an answer that is no refusal.
 fn kind(number: usize) -> Kind {
-    match number as u64 {
-        raw::ROW => Kind::Row,
-        raw::CHANNEL => Kind::Channel,
-        raw::BOX => Kind::Box,
-        raw::TWO_LAYER => Kind::TwoLayer,
-        other => panic!("the library answered {other}, which is no kind"),
-    }
+    let kind = Kind::ALL.into_iter().find(|kind| kind.byte() as usize == number);
+    kind.unwrap_or_else(|| panic!("the library answered {number}, which is no kind"))
 }
 
 /// The entries as numbers of this machine, unless the first two are a refusal.

@@ -11,17 +11,25 @@ pub struct Refusal {
 }
 
 impl Refusal {
+    /// The number of a byte 0 that is no kind.
+    pub const NO_KIND: u8 = 2;
+    /// The number of a net number that is none.
+    pub const NO_NET: u8 = 7;
+    /// The number of a net with one pin only; the place is the net.
+    pub const LONE_NET: u8 = 9;
     /// The number of a wiring buffer that is too short; the place is the length needed.
     pub const SHORT_BUFFER: u8 = 10;
     /// The number of a wiring whose length is not n * w * k; the place is that length.
     pub const WRONG_LENGTH: u8 = 12;
+    /// The number of a net that is not in one piece; the place is the net.
+    pub const NET_IN_PIECES: u8 = 15;
 
     /// What the number means, with the place in it.
     pub fn meaning(&self) -> String {
         let place = self.place;
         match self.number {
             1 => format!("the ticket ends after {place} bytes, before one that is needed"),
-            2 => format!(
+            Self::NO_KIND => format!(
                 "byte 0, the kind, is none of {} (row), {} (channel), {} (box) and {} (two-layer channel)",
                 raw::ROW,
                 raw::CHANNEL,
@@ -35,9 +43,9 @@ impl Refusal {
             ),
             5 => "byte 3, the side map, has a side that the kind has not".to_string(),
             6 => format!("the position map at byte {place} has no bit, or a spare bit"),
-            7 => format!("the net number at byte {place} is none of 1 to {LARGEST_NET}"),
+            Self::NO_NET => format!("the net number at byte {place} is none of 1 to {LARGEST_NET}"),
             8 => format!("bytes are left over from byte {place} on"),
-            9 => format!("net {place} has one pin only"),
+            Self::LONE_NET => format!("net {place} has one pin only"),
             Self::SHORT_BUFFER => format!("the wiring buffer is shorter than the {place} bytes that the wiring takes"),
             11 => format!(
                 "n is none of 1 to {LONGEST_SIDE}, or w none of 1 to {WIDEST_CHANNEL} \
@@ -47,7 +55,7 @@ impl Refusal {
             Self::WRONG_LENGTH => format!("the wiring's length is not n * w * k, which is {place}"),
             13 => format!("the scratch is shorter than the {place} bytes that it must have"),
             14 => format!("the point at byte {place} of the wiring holds no net of the ticket"),
-            15 => format!("net {place} is not in one piece"),
+            Self::NET_IN_PIECES => format!("net {place} is not in one piece"),
             16 => format!("the wiring has no layer {place}"),
             17 => "the two-layer channel is solid, so that no width has a legal wiring on two layers".to_string(),
             18 => format!("a side of the box, n or w, is none of 1 to {LONGEST_SIDE}"),

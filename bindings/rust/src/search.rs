@@ -7,7 +7,8 @@ mod random;
 mod router;
 mod tree;
 
-use crate::{check, edge_floor, flatten, read, survey, Kind, Refusal, Wiring};
+use crate::pins::pins;
+use crate::{check, edge_floor, read, survey, Kind, Refusal, Wiring};
 use grid::{Grid, Net};
 use router::Router;
 use std::fmt;
@@ -105,7 +106,7 @@ pub fn search_with(
     if k < edge_floor {
         return Ok(Outcome::BelowFloor { edge_floor });
     }
-    let pins = grid::pins(&flatten(ticket)?);
+    let pins = pins(ticket)?;
     let (horizontal, vertical) = needs::needed(grid.n, grid.w, &pins);
     let (more, fewer) = (k.div_ceil(2), k / 2);
     let (has_horizontal, has_vertical) = if first { (more, fewer) } else { (fewer, more) };

@@ -23,9 +23,11 @@ impl From<(Laid, Vec<u8>)> for Wiring {
 }
 
 impl Wiring {
-    /// Whether it is legal for the ticket.
+    /// Whether it is legal for the ticket. `check` does not know n, but takes the ticket's; only if it is the same a wiring that it
+    /// accepts has a layer of that length.
     pub fn check(&self, ticket: &[u8]) -> Result<(), Refusal> {
-        check(ticket, self.w, self.k, self.first, &self.points)
+        check(ticket, self.w, self.k, self.first, &self.points)?;
+        self.layer(1).map(|_| ())
     }
 
     /// A layer, counted from 1.

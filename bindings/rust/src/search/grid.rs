@@ -1,5 +1,7 @@
 //! The points that the search runs over, and the nets' pins with the points beside them.
 
+use crate::pins::Pin;
+
 /// A point's place in the arrays of the search.
 pub type Point = u32;
 
@@ -44,24 +46,8 @@ impl Grid {
     }
 }
 
-#[derive(Clone, Copy, PartialEq, Eq)]
-pub enum Side {
-    North,
-    South,
-    West,
-    East,
-}
-
-/// The side, the place, counted from 1, and the net of every pin of a flat ticket of a box.
-pub fn pins(flat: &[u8]) -> Vec<(Side, usize, u8)> {
-    let (n, w) = (flat[1] as usize, flat[2] as usize);
-    let sides = [(Side::North, n), (Side::South, n), (Side::West, w), (Side::East, w)];
-    let places = sides.into_iter().flat_map(|(side, places)| (1..=places).map(move |place| (side, place)));
-    places.zip(&flat[3..]).filter(|(_, net)| **net != 0).map(|((side, place), net)| (side, place, *net)).collect()
-}
-
-/// A pin: the column and the track beside it, and the points there on the layers of its direction.
-pub struct Pin {
+/// Beside a pin: column and track, and the points there on the layers of its direction.
+pub struct PinPoints {
     pub column: usize,
     pub track: usize,
     pub points: Vec<Point>,
@@ -69,34 +55,28 @@ pub struct Pin {
 
 pub struct Net {
     pub number: u8,
-    pub pins: Vec<Pin>,
+    pub pins: Vec<PinPoints>,
 }
 
 impl Net {
     /// The nets of these pins.
-    pub fn all(grid: &Grid, pins: &[(Side, usize, u8)]) -> Vec<Net> {
+    pub fn all(grid: &Grid, pins: &[Pin]) -> Vec<Net> {
         let mut nets: Vec<Net> = Vec::new();
-        for (side, place, number) in pins {
-            let pin = Pin::beside(grid, *side, *place);
-            match nets.iter_mut().find(|net| net.number == *number) {
-                Some(net) => net.pins.push(pin),
-                None => nets.push(Net { number: *number, pins: vec![pin] }),
+        for pin in pins {
+            let points = PinPoints::of(grid, pin);
+            match nets.iter_mut().find(|net| net.number == pin.net) {
+                Some(net) => net.pins.push(points),
+                None => nets.push(Net { number: pin.net, pins: vec![points] }),
             }
         }
         nets
     }
 }
 
-impl Pin {
-    fn beside(grid: &Grid, side: Side, place: usize) -> Pin {
-        let (column, track) = match side {
-            Side::North => (place, grid.w),
-            Side::South => (place, 1),
-            Side::West => (1, place),
-            Side::East => (grid.n, place),
-        };
-        let horizontal = matches!(side, Side::West | Side::East);
-        let layers = (1..=grid.k).filter(|l| grid.is_horizontal(*l) == horizontal);
-        Pin { column, track, points: layers.map(|l| grid.at(column, track, l) as Point).collect() }
+impl PinPoints {
+    fn of(grid: &Grid, pin: &Pin) -> PinPoints {
+        let (column, track) = pin.side.beside(pin.place, grid.n, grid.w);
+        let layers = (1..=grid.k).filter(|l| grid.is_horizontal(*l) == pin.side.is_at_tracks());
+        PinPoints { column, track, points: layers.map(|l| grid.at(column, track, l) as Point).collect() }
     }
 }

@@ -1,7 +1,7 @@
 //! How many layers of each direction the columns and the tracks of a box need, counted as the edge floor counts. No proof speaks of
 //! this code: it only saves the search from looking where nothing can be found.
 
-use super::grid::Side;
+use crate::pins::Pin;
 use std::collections::BTreeMap;
 
 /// Of a net's pins: where each is along the grid, 0 for the near side and one past the last for the far side, and its place.
@@ -26,17 +26,12 @@ fn layers(nets: &BTreeMap<u8, Along>, last: usize, places: usize) -> usize {
 }
 
 /// The horizontal and the vertical layers that a box of n columns and w tracks needs for these pins.
-pub fn needed(n: usize, w: usize, pins: &[(Side, usize, u8)]) -> (usize, usize) {
+pub fn needed(n: usize, w: usize, pins: &[Pin]) -> (usize, usize) {
     let (mut by_column, mut by_track) = (BTreeMap::<u8, Along>::new(), BTreeMap::<u8, Along>::new());
-    for (side, place, net) in pins {
-        let (column, track) = match side {
-            Side::North => (*place, w + 1),
-            Side::South => (*place, 0),
-            Side::West => (0, *place),
-            Side::East => (n + 1, *place),
-        };
-        by_column.entry(*net).or_default().push((column, *place));
-        by_track.entry(*net).or_default().push((track, *place));
+    for pin in pins {
+        let (column, track) = pin.side.outside(pin.place, n, w);
+        by_column.entry(pin.net).or_default().push((column, pin.place));
+        by_track.entry(pin.net).or_default().push((track, pin.place));
     }
     (layers(&by_column, n, w), layers(&by_track, w, n))
 }

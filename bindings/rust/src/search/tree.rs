@@ -1,6 +1,6 @@
 //! A net's tree: A* from all that the tree has to the nearest pin that it does not join yet, over and over.
 
-use super::grid::{Grid, Net, Pin, Point};
+use super::grid::{Grid, Net, PinPoints, Point};
 use super::random::Random;
 use std::cmp::Reverse;
 use std::collections::BinaryHeap;
@@ -36,7 +36,7 @@ struct Area {
 }
 
 impl Area {
-    fn of<'a>(pins: impl Iterator<Item = &'a Pin>) -> Self {
+    fn of<'a>(pins: impl Iterator<Item = &'a PinPoints>) -> Self {
         let grown = |(low, high): (u8, u8), at: usize| (low.min(at as u8), high.max(at as u8));
         let none = Area { columns: (u8::MAX, 0), tracks: (u8::MAX, 0) };
         pins.fold(none, |area, pin| Area { columns: grown(area.columns, pin.column), tracks: grown(area.tracks, pin.track) })
@@ -86,7 +86,7 @@ impl Trees {
     /// trees are grown.
     pub fn grow(&mut self, net: &Net, prices: &mut Prices) -> Option<Vec<Point>> {
         let start = prices.random.below(net.pins.len());
-        let mut left: Vec<&Pin> = net.pins.iter().collect();
+        let mut left: Vec<&PinPoints> = net.pins.iter().collect();
         let start = left.swap_remove(start);
         self.tree += 1;
         self.area = Area::of(left.iter().copied());
@@ -97,7 +97,7 @@ impl Trees {
         while !left.is_empty() {
             let end = self.nearest_wanted(prices)?;
             self.add_way(end, &mut points);
-            let (joined, rest): (Vec<&Pin>, Vec<&Pin>) = left.into_iter().partition(|pin| pin.points.contains(&end));
+            let (joined, rest): (Vec<&PinPoints>, Vec<&PinPoints>) = left.into_iter().partition(|pin| pin.points.contains(&end));
             left = rest;
             joined.iter().flat_map(|pin| &pin.points).for_each(|p| self.wanted[*p as usize] = 0);
             joined.into_iter().for_each(|pin| self.leave(pin, prices));
@@ -106,7 +106,7 @@ impl Trees {
     }
 
     /// A pin that the tree joins reaches all layers of its direction for nothing.
-    fn leave(&mut self, pin: &Pin, prices: &mut Prices) {
+    fn leave(&mut self, pin: &PinPoints, prices: &mut Prices) {
         pin.points.iter().for_each(|p| self.reach(*p as usize, 0.0, *p, prices));
     }
 
