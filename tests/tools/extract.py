@@ -102,6 +102,7 @@ def from_def(name, layers):
 
 def main():
     compared, wrong = 0, 0
+    # KLayout's command line sets `folder`.
     for path in sorted(glob.glob(f"{folder}/*.wiring")):
         name = path[: -len(".wiring")]
         with open(path, "rb") as file:

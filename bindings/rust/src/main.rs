@@ -14,10 +14,10 @@ const MISUSED: u8 = 2;
 const TICKETS: &str = "\
 TICKET is a file, or standard input where none is named or - is. Its first byte that is no blank tells what it holds:
   a digit    the ticket's bytes, each as two hexadecimal digits, with blanks and line ends between bytes or not;
-  a letter   the flat ticket as text: row, channel, box or two-layer, the length, and the width of a box or the trunk
-             layers of a row or channel; then a name for each place of north, south, west and east, as far as the kind has
-             these sides, and . for a place without a pin. Names that are all numbers from 1 to 180 are the nets'
-             numbers; others are numbered in order of appearance. # begins a comment, which the line's end ends:
+  a letter   (or #) the flat ticket as text: row, channel, box or two-layer, the length, and the width of a box or the
+             trunk layers of a row or channel; then a name for each place of north, south, west and east, as far as the
+             kind has these sides, and . for a place without a pin. Names that are all numbers from 1 to 180 are the
+             nets' numbers; others are numbered in order of appearance. # begins a comment, which the line's end ends:
 
                  channel 4 1
                  clk a . b     # north

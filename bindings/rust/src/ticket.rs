@@ -142,11 +142,13 @@ impl Word<'_> {
 
 /// The words of a line; one that begins with `#` ends it.
 fn words_of_line(line: usize, bytes: &[u8]) -> impl Iterator<Item = Word<'_>> {
-    let words = bytes.split(is_blank).filter(|word| !word.is_empty()).take_while(|word| word[0] != b'#');
-    words.map(move |word| {
-        let start = word.as_ptr() as usize - bytes.as_ptr() as usize;
-        Word { word, line, before: &bytes[..start] }
-    })
+    let mut start = 0;
+    let words = bytes.split(is_blank).map(move |word| {
+        let before = &bytes[..start];
+        start += word.len() + 1;
+        Word { word, line, before }
+    });
+    words.filter(|word| !word.word.is_empty()).take_while(|word| word.word[0] != b'#')
 }
 
 fn column_after(bytes: &[u8]) -> usize {
