@@ -3,7 +3,7 @@
 mod common;
 
 use common::{flat, ticket};
-use pozqaben::{edge_floor, flatten, hardest_box, lay, read, survey, unflatten, Layout, Refusal, Ticket, Wiring};
+use pozqaben::{edge_floor, flatten, hardest_box, lay, read, survey, unflatten, Effort, Layout, Refusal, Ticket, Wiring};
 use slow::tickets::{of_shape, random, solid, Numbers, DOCUMENT};
 use slow::BOX;
 use std::fs;
@@ -102,6 +102,8 @@ fn help_and_usage() {
         assert!(said(&[name, "-o"], b"", MISUSED).starts_with("-o has no value;"));
         assert!(said(&[name, "-o", "a", "--output=b"], b"", MISUSED).starts_with("-o is there twice;"));
     }
+    let (help, usual) = (line(&["squeeze", "--help"], b""), Effort::default());
+    assert!(help.contains(&format!("NETS nets ({})", usual.budget)) && help.contains(&format!("NUMBER ({})", usual.seed)), "{help}");
     assert_eq!(line(&["--version"], b""), "pozqaben 0.1.0\n");
     assert!(said(&["frobnicate"], b"", MISUSED).starts_with("there is no command frobnicate;"));
     assert!(said(&["check"], b"", MISUSED).starts_with("there are too few words;"));
