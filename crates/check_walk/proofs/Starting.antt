@@ -31,16 +31,16 @@ on_first {g} {i} {j} e a b c =
     }
 
 -- another mark where there was one
-pub remarked : {p s x m : List ℕ} {E : Spot → Spot → Type 0} {a d : ℕ} → a < length s → at s a ≢ 0 → d ≢ 0
+pub remarked : (p s x m : List ℕ) {E : Spot → Spot → Type 0} {a d : ℕ} → a < length s → at s a ≢ 0 → d ≢ 0
     → Grown (val p x) (two s m) (two (set s a d) m) E
-remarked {s = s} {m = m} {a = a} {d = d} h k nz = grown_mark (a_pin a) rest (λ z. nz (sym (get_or-set_same s a d 0 h) ∙ z)) (here k)
+remarked p s x m {a = a} {d = d} h k nz = grown_mark (a_pin a) rest (λ z. nz (sym (get_or-set_same s a d 0 h) ∙ z)) (here k)
   where
     rest : (c : Spot) → (c ≡ a_pin a) ⊎ (val (set s a d) m c ≡ val s m c)
     rest (a_pin b) = ⊎_elim (λ e. inl (ap a_pin e)) inr (elsewhere s a d b)
     rest (a_point q) = inr refl
 
 -- from a pin to the cell that it touches
-pub begun : {g : Grid} {p s x m m' : List ℕ} {a : ℕ} {c : Cell} {flat r : Bool} → Pinned g s a c flat → horizontal g.first c.l ≡ flat
+pub begun : {g : Grid} (p : List ℕ) {s x m m' : List ℕ} {a : ℕ} {c : Cell} {flat r : Bool} → Pinned g s a c flat → horizontal g.first c.l ≡ flat
     → Claimed x m m' c.q (at p a) 5 r → c.q < length m → Grown (val p x) (two s m) (two s m') (Edges g)
-begun {p = p} {s} {x} {m} {m'} {a} {c} {flat} {r} h e t l =
+begun {g} p {s} {x} {m} {m'} {a} {c} {flat} {r} h e t l =
     claimed_point p s x m m' c.q (at p a) 5 r t l (λ z. omega arith) (λ q. on (here h.marked) (tip_edge h.cell a flat e h.tip) (sym q))

@@ -33,7 +33,7 @@ module _ (g : Grid) where
   path_at_once (z ∷ l) u v h = inl (path_at_once l u v h)
 
   -- two paths that meet at a node of the list
-  path_through : {l : List Node} {w : Node} (u v : Node) → Mem w l → Path l u w → Path l w v → Path l u v
+  path_through : {w : Node} {l : List Node} (u v : Node) → Mem w l → Path l u w → Path l w v → Path l u v
   path_through u v (head {x = z} {xs = l} e) a b =
       inr (
         ⊎_elim (λ h. h) (λ h. h.0) (subst (λ (w : Node). Path (z ∷ l) u w) e a),

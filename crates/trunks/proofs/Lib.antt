@@ -1,5 +1,4 @@
 pub mod Steps
-pub mod Lent
 pub mod Ends
 pub mod Listings
 pub mod Gallai

@@ -6,24 +6,23 @@ use Rattle.answers.proofs.Views.{entries_refused, entries_seen}
 use Rattle.answers.proofs.view_entries.Statement.{statement}
 use Rattle.answers.proofs.view_entries.Tie as tie
 
-returns : tie.Need-returns
-returns c = entries_refused _ _ _ _ _ _ c.before.before.before.layer_view_refusal.ensures c.before.if1.true
+returns : tie.Need-returns-then-refusal-ne0
+returns c = entries_refused _ _ _ _ _ _ c.layer_view_refusal-refusal.ensures c.if-refusal-ne0.true
 
-index-of-requires : tie.Need-index-of-requires
+index-of-requires : tie.Need-index_of-start-requires
 index-of-requires c κs =
-    let v = seen _ _ _ _ _ _ c.before.before.layer_view_refusal.ensures c.if1.false in
+    let v = seen _ _ _ _ _ _ c.layer_view_refusal-refusal.ensures c.if-refusal-ne0.false in
     omega (arith, v.grid.long, v.grid.wide, v.grid.high, v.level)
 
-area-requires : tie.Need-area-requires
+area-requires : tie.Need-area-size-requires
 area-requires c κs =
-    let v = seen _ _ _ _ _ _ c.before.before.before.layer_view_refusal.ensures c.before.if1.false in
+    let v = seen _ _ _ _ _ _ c.layer_view_refusal-refusal.ensures c.if-refusal-ne0.false in
     omega (arith, v.grid.long, v.grid.wide)
 
-returns-2 : tie.Need-returns-2
+returns-2 : tie.Need-returns
 returns-2 c =
-    let c3 = c.before.before.before in
-    let given = c3.before.before.layer_view_refusal.ensures in
-    entries_seen _ _ _ _ _ _ given _ _ c3.if1.false c.before.before.index_of.ensures c.before.area.ensures
+    let given = c.layer_view_refusal-refusal.ensures in
+    entries_seen _ _ _ _ _ _ given _ _ c.if-refusal-ne0.false c.index_of-start.ensures c.area-size.ensures
 
 pub view_entries_spec : {M : Type 1} → statement M
 view_entries_spec =

@@ -9,9 +9,8 @@ use Rattle.board.proofs.limited.Tie as tie
 
 returns : tie.Need-returns
 returns c =
-    let c3 = c.before.before.before in
-    let long = c3.smaller.ensures ∙ ap (λ (x : ℕ). min x longest_side) c3.before.column_count.ensures in
-    limits c3.before.before.args.q _ _ _ long c.before.smaller_byte.ensures c.smaller_byte2.ensures
+    let long = c.smaller-n.ensures ∙ ap (λ (x : ℕ). min x longest_side) c.column_count.ensures in
+    limits c.args.q _ _ _ long c.smaller_byte.ensures c.smaller_byte-2.ensures
 
 pub limited_spec : {M : Type 1} → statement M
 limited_spec =

@@ -8,43 +8,37 @@ use Rattle.board.proofs.BoardKinds.{small_kind, two, three, four, none}
 use Rattle.board.proofs.start_refusal.Statement.{statement}
 use Rattle.board.proofs.start_refusal.Tie as tie
 
-returns : tie.Need-returns
+returns : tie.Need-returns-then-not-is_board_kind
 returns c =
-    let a = c.before.before.before.args in
-    c.refuse.ensures ∙ two a.kind a.n a.byte2 (failed c.before.before.is_board_kind.ensures c.before.if1.true)
+    let a = c.args in
+    c.refuse.ensures ∙ two a.kind a.n a.byte2 (failed c.is_board_kind.ensures c.if-not-is_board_kind.true)
 
-returns-2 : tie.Need-returns-2
+returns-2 : tie.Need-returns-then-not-is_within
 returns-2 c =
-    let c4 = c.before.before.before.before in
-    let a = c4.before.args in
-    c.refuse2.ensures
-    ∙ three a.kind a.n a.byte2 (passed c4.is_board_kind.ensures c.before.before.before.if1.false)
-    (failed c.before.before.is_Within.ensures c.before.if2.true)
+    let a = c.args in
+    c.refuse-then-not-is_within.ensures
+    ∙ three a.kind a.n a.byte2 (passed c.is_board_kind.ensures c.if-not-is_board_kind.false)
+    (failed c.is_within.ensures c.if-not-is_within.true)
 
-cast-largest-byte2 : tie.Need-overflow-cast-largest-byte2
+cast-largest-byte2 : tie.Need-overflow_cast-kind
 cast-largest-byte2 c =
-    let c3 = c.before.before.before in
-    omega (arith, small_kind c3.before.args.kind (passed c3.is_board_kind.ensures c.before.before.if1.false))
+    omega (arith, small_kind c.args.kind (passed c.is_board_kind.ensures c.if-not-is_board_kind.false))
 
-returns-3 : tie.Need-returns-3
+returns-3 : tie.Need-returns-then-not-is_within-2
 returns-3 c =
-    let c4 = c.before.before.before.before in
-    let c7 = c4.before.before.before in
-    let a = c7.before.args in
-    let tested = c.before.before.is_within2.ensures ∙ ap (within a.byte2) c.before.before.before.largest-byte2.ensures in
-    c.refuse3.ensures
-    ∙ four a.kind a.n a.byte2 (passed c7.is_board_kind.ensures c4.before.before.if1.false)
-    (passed c4.before.is_Within.ensures c4.if2.false) (failed tested c.before.if3.true)
+    let a = c.args in
+    let tested = c.is_within-2.ensures ∙ ap (within a.byte2) c.largest_byte2.ensures in
+    c.refuse-then-not-is_within-2.ensures
+    ∙ four a.kind a.n a.byte2 (passed c.is_board_kind.ensures c.if-not-is_board_kind.false)
+    (passed c.is_within.ensures c.if-not-is_within.false) (failed tested c.if-not-is_within-2.true)
 
-returns-4 : tie.Need-returns-4
+returns-4 : tie.Need-returns
 returns-4 c =
-    let c4 = c.before.before.before.before in
-    let c7 = c4.before.before.before in
-    let a = c7.before.args in
-    let tested = c.before.before.is_within2.ensures ∙ ap (within a.byte2) c.before.before.before.largest-byte2.ensures in
-    c.refuse4.ensures
-    ∙ none a.kind a.n a.byte2 (passed c7.is_board_kind.ensures c4.before.before.if1.false)
-    (passed c4.before.is_Within.ensures c4.if2.false) (passed tested c.before.if3.false)
+    let a = c.args in
+    let tested = c.is_within-2.ensures ∙ ap (within a.byte2) c.largest_byte2.ensures in
+    c.refuse-2.ensures
+    ∙ none a.kind a.n a.byte2 (passed c.is_board_kind.ensures c.if-not-is_board_kind.false)
+    (passed c.is_within.ensures c.if-not-is_within.false) (passed tested c.if-not-is_within-2.false)
 
 pub start_refusal_spec : {M : Type 1} → statement M
 start_refusal_spec =

@@ -7,24 +7,23 @@ use Rattle.board_law.specs.Counts.{count_entries}
 use Rattle.board_counts.proofs.count_at.Statement.{statement}
 use Rattle.board_counts.proofs.count_at.Tie as tie
 
-returns : tie.Need-returns
-returns c = rw (failed c.before.is_Within.ensures c.if1.true)
+returns : tie.Need-returns-then-not-is_within
+returns c = rw (failed c.is_within.ensures c.if-not-is_within.true)
 
-sub_wide : tie.Need-overflow-sub-wide
+sub_wide : tie.Need-overflow_sub-place
 sub_wide c =
-    let a = c.before.before.args in
-    omega (arith, within_in a.place count_entries (passed c.before.is_Within.ensures c.if1.false))
+    let a = c.args in
+    omega (arith, within_in a.place count_entries (passed c.is_within.ensures c.if-not-is_within.false))
 
-element-copy-out-wide : tie.Need-element-copy-out-wide
+element-copy-out-wide : tie.Need-bounds-list-place
 element-copy-out-wide c =
-    let a = c.before.before.args in
-    omega (arith, within_in a.place count_entries (passed c.before.is_Within.ensures c.if1.false))
+    let a = c.args in
+    omega (arith, within_in a.place count_entries (passed c.is_within.ensures c.if-not-is_within.false))
 
-returns-2 : tie.Need-returns-2
+returns-2 : tie.Need-returns
 returns-2 c =
-    let c3 = c.before.before.before in
-    let a = c3.before.args in
-    let here = passed c3.is_Within.ensures c.before.before.if1.false in
+    let a = c.args in
+    let here = passed c.is_within.ensures c.if-not-is_within.false in
     rw here (c.wide.ensures ∙ sym (entry_at a.list.now a.place (within_in a.place count_entries here).0))
 
 pub count_at_spec : {M : Type 1} → statement M

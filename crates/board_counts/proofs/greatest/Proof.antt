@@ -7,26 +7,26 @@ use Rattle.board_counts.proofs.Shifts.{most_none, most_next}
 use Rattle.board_counts.proofs.greatest.Statement.{statement}
 use Rattle.board_counts.proofs.greatest.Tie as tie
 
-abbrev invariant-loop : tie.invariant-loop
+abbrev invariant-loop : tie.invariant-loop-i
 invariant-loop list most₀ i₀ most' i = (i ≤ count_entries) × (most' ≡ most (entry list) i)
 
-abbrev decreases-loop : tie.decreases-loop
+abbrev decreases-loop : tie.decreases-loop-i
 decreases-loop list most₀ i₀ most' i = count_entries - i
 
-loop-holds : tie.Need-loop-init invariant-loop decreases-loop
+loop-holds : tie.Need-loop-i-init invariant-loop decreases-loop
 loop-holds c = (omega arith, sym (most_none _))
 
-loop-again : tie.Need-loop-preserved invariant-loop decreases-loop
+loop-again : tie.Need-loop-i-preserved invariant-loop decreases-loop
 loop-again c =
-    let l = c.before.before.before.loop in
-    let a = c.before.before.before.before.args in
-    let e : c.larger_byte.result ≡ max (most (entry a.list.now) l.i) (get_or a.list.now l.i 0) =
-    c.larger_byte.ensures ∙ ap (λ (x : ℕ). max x (get_or a.list.now l.i 0)) l.invariant.1 in
+    let l = c.loop-i in
+    let a = c.args in
+    let e : c.larger_byte-most.result ≡ max (most (entry a.list.now) l.i) (get_or a.list.now l.i 0) =
+    c.larger_byte-most.ensures ∙ ap (λ (x : ℕ). max x (get_or a.list.now l.i 0)) l.invariant.1 in
     (omega arith, e ∙ sym (most_next a.list.now l.i))
 
 returns : tie.Need-returns invariant-loop decreases-loop
 returns c =
-    let l = c.before.loop in
+    let l = c.loop-i in
     let e : l.i ≡ count_entries = omega arith in
     l.invariant.1 ∙ ap (most _) e
 

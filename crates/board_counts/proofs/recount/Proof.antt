@@ -23,32 +23,25 @@ run_of low high places {from = from} {size = size} i x f y z t s e = (from_is, s
 
 shift-requires : tie.Need-shift-requires
 shift-requires c κs =
-    let c4 = c.before.before.before.before in
-    let c8 = c4.before.before.before.before in
-    let c13 = c8.before.before.before.before.before in
-    let low = c8.before.before.choose2.result in
-    let high = c8.before.choose3.result in
-    let run = run_of low high c13.args.places c8.both.ensures c4.before.before.before.larger_byte.ensures
-    c4.before.before.smaller_byte.ensures c4.before.larger_byte2.ensures c4.smaller_byte2.ensures
-    c.before.before.before.larger_byte3.ensures c.before.before.both2.ensures c.before.choose4.ensures in (
-      subst (λ (x : ℕ). x ≤ longest_side) (sym run.0) (run_from_lem low high c13.args.places c13.requires.0),
-      subst (λ (x : ℕ). x ≤ longest_side + 1) (sym run.1) (run_size_lem low high c13.args.places c13.requires.0),
-      c13.requires.1,
+    let low = c.choose-low.result in
+    let high = c.choose-high.result in
+    let run = run_of low high c.args.places c.both-between.ensures c.larger_byte.ensures
+    c.smaller_byte-from.ensures c.larger_byte-2.ensures c.smaller_byte.ensures
+    c.larger_byte-to.ensures c.both.ensures c.choose-size.ensures in (
+      subst (λ (x : ℕ). x ≤ longest_side) (sym run.0) (run_from_lem low high c.args.places c.requires.0),
+      subst (λ (x : ℕ). x ≤ longest_side + 1) (sym run.1) (run_size_lem low high c.args.places c.requires.0),
+      c.requires.1,
     )
 
 returns : tie.Need-returns
 returns c =
-    let c2 = c.before.before in
-    let c5 = c2.before.before.before in
-    let c9 = c5.before.before.before.before in
-    let c14 = c9.before.before.before.before.before in
-    let high = c9.before.choose3 in
-    let low = c9.before.before.choose2 in
-    let run = run_of low.result high.result c14.args.places c9.both.ensures c5.before.before.before.larger_byte.ensures
-    c5.before.before.smaller_byte.ensures c5.before.larger_byte2.ensures c5.smaller_byte2.ensures
-    c2.before.before.larger_byte3.ensures c2.before.both2.ensures c2.choose4.ensures in
-    let low_is = low.ensures ∙ ap (cond c14.args.ends.one 0) c9.before.before.before.choose.ensures in
-    (recounts c14.requires.0 low_is high.ensures run.0 run.1 c.shift.ensures.0, c.shift.ensures.1)
+    let high = c.choose-high in
+    let low = c.choose-low in
+    let run = run_of low.result high.result c.args.places c.both-between.ensures c.larger_byte.ensures
+    c.smaller_byte-from.ensures c.larger_byte-2.ensures c.smaller_byte.ensures
+    c.larger_byte-to.ensures c.both.ensures c.choose-size.ensures in
+    let low_is = low.ensures ∙ ap (cond c.args.ends.one 0) c.choose-inner.ensures in
+    (recounts c.requires.0 low_is high.ensures run.0 run.1 c.shift.ensures.0, c.shift.ensures.1)
 
 pub recount_spec : {M : Type 1} → statement M
 recount_spec =

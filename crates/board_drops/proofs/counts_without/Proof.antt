@@ -18,148 +18,128 @@ use Rattle.board_drops.proofs.Taken.{on_a_side, none_taken, TakenTo, one_taken, 
 use Rattle.board_drops.proofs.counts_without.Statement.{statement}
 use Rattle.board_drops.proofs.counts_without.Tie as tie
 
-abbrev invariant-loop : tie.invariant-loop
+abbrev invariant-loop : tie.invariant-loop-i
 invariant-loop nets q columns₀ tracks₀ n w i₀ columns tracks i =
     (i ≤ length nets) × CountingThere (is_there (pins_in q.pins)) nets i × TakenTo q nets i columns₀ tracks₀ columns tracks
     × (length columns ≡ count_entries) × (length tracks ≡ count_entries)
     × ((n ≡ q.n.0) × (n ≤ longest_side)) × ((w ≡ box_width q) × (w ≤ longest_side))
 
-abbrev decreases-loop : tie.decreases-loop
+abbrev decreases-loop : tie.decreases-loop-i
 decreases-loop nets q columns₀ tracks₀ n w i₀ columns tracks i = length nets - i
 
-cast-n : tie.Need-overflow-cast-n invariant-loop decreases-loop
-cast-n c = omega (arith, c.column_count.ensures, c.before.before.before.requires.0)
+cast-n : tie.Need-overflow_cast-n invariant-loop decreases-loop
+cast-n c = omega (arith, c.column_count-n.ensures, c.requires.0)
 
-box-width-requires : tie.Need-box-width-requires invariant-loop decreases-loop
-box-width-requires c κs = c.before.before.before.requires.1
+box-width-requires : tie.Need-box_width-w-requires invariant-loop decreases-loop
+box-width-requires c κs = c.requires.1
 
-loop-holds : tie.Need-loop-init invariant-loop decreases-loop
+loop-holds : tie.Need-loop-i-init invariant-loop decreases-loop
 loop-holds c =
-    let c4 = c.before.before.before.before in
-    let n = c.before.column_count.ensures in (
+    let n = c.column_count-n.ensures in (
       omega arith,
       omega arith,
       λ no_repeat sound. none_taken sound,
       search rules,
       search rules,
-      (n, omega (arith, n, c4.requires.0)),
-      c.box_width.ensures,
+      (n, omega (arith, n, c.requires.0)),
+      c.box_width-w.ensures,
     )
 
-returns : tie.Need-returns invariant-loop decreases-loop
+returns : tie.Need-returns-then-not-is_within invariant-loop decreases-loop
 returns c =
-    let c4 = c.before.before.before.before in
-    let l = c4.loop in
-    let a = c4.before.before.before.before.before.args in
+    let l = c.loop-i in
+    let a = c.args in
     let nets = a.nets.now in
-    let there = is_there (pins_in a.t1.pins) in
-    let out = failed c.before.is_Within.ensures c.if1.true in
+    let there = is_there (pins_in a.q.pins) in
+    let out = failed c.is_within.ensures c.if-not-is_within.true in
     let away = ap (λ (t : Bool). t && there (get_or nets l.i 0)) out in
-    let h = c.before.before.before.loop-test.true in
+    let h = c.loop-i-test.true in
     (absent_at there nets l.i h l.invariant.1 away, λ all. absurd (omega (arith, all)))
 
-cast-end-places : tie.Need-overflow-cast-end-places invariant-loop decreases-loop
+cast-end-places : tie.Need-overflow_cast-net invariant-loop decreases-loop
 cast-end-places c =
-    let i = c.before.before.before in
-    let l = i.before.before.before.before in
-    let net = get_or l.before.before.before.before.before.args.nets.now l.loop.i 0 in
-    omega (arith, within_in net largest_net (passed i.before.is_Within.ensures i.if1.false))
+    let net = get_or c.args.nets.now c.loop-i.i 0 in
+    omega (arith, within_in net largest_net (passed c.is_within.ensures c.if-not-is_within.false))
 
-end-places-requires : tie.Need-end-places-requires invariant-loop decreases-loop
+end-places-requires : tie.Need-end_places-along-requires invariant-loop decreases-loop
 end-places-requires c κs =
-    let i = c.before.before.before in
-    (within_in _ largest_net (passed i.before.is_Within.ensures i.if1.false)).0
+    (within_in _ largest_net (passed c.is_within.ensures c.if-not-is_within.false)).0
 
-cast-end-places-2 : tie.Need-overflow-cast-end-places-2 invariant-loop decreases-loop
+cast-end-places-2 : tie.Need-overflow_cast-net-in-loop-i invariant-loop decreases-loop
 cast-end-places-2 c =
-    let i = c.before.before.before.before.before.before.before in
-    let l = i.before.before.before.before in
-    let net = get_or l.before.before.before.before.before.args.nets.now l.loop.i 0 in
-    omega (arith, within_in net largest_net (passed i.before.is_Within.ensures i.if1.false))
+    let net = get_or c.args.nets.now c.loop-i.i 0 in
+    omega (arith, within_in net largest_net (passed c.is_within.ensures c.if-not-is_within.false))
 
-end-places-requires-2 : tie.Need-end-places-requires-2 invariant-loop decreases-loop
+end-places-requires-2 : tie.Need-end_places-ends-requires invariant-loop decreases-loop
 end-places-requires-2 c κs =
-    let i = c.before.before.before.before.before.before.before in
-    (within_in _ largest_net (passed i.before.is_Within.ensures i.if1.false)).0
+    (within_in _ largest_net (passed c.is_within.ensures c.if-not-is_within.false)).0
 
-returns-2 : tie.Need-returns-2 invariant-loop decreases-loop
+returns-2 : tie.Need-returns-then-not-has_place invariant-loop decreases-loop
 returns-2 c =
-    let c6 = c.before.before.before.before.before.before in
-    let c10 = c6.before.before.before.before in
-    let c14 = c10.before.before.before.before in
-    let l = c14.loop in
-    let a = c14.before.before.before.before.before.args in
+    let l = c.loop-i in
+    let a = c.args in
     let nets = a.nets.now in
     let m = get_or nets l.i 0 in
-    let there = is_there (pins_in a.t1.pins) in
-    let found = on_a_side a.t1.pins m c6.end_places.result c.before.before.end_places2.result c6.end_places.ensures
-    c.before.before.end_places2.ensures c.before.has_place.ensures in
-    let away = ap (λ (t : Bool). within m largest_net && t) (failed found c.if2.true) ∙ and-false (within m largest_net) in
-    let h = c10.before.before.before.loop-test.true in
+    let there = is_there (pins_in a.q.pins) in
+    let found = on_a_side a.q.pins m c.end_places-along.result c.end_places-ends.result c.end_places-along.ensures
+    c.end_places-ends.ensures c.has_place.ensures in
+    let away = ap (λ (t : Bool). within m largest_net && t) (failed found c.if-not-has_place.true) ∙ and-false (within m largest_net) in
+    let h = c.loop-i-test.true in
     (absent_at there nets l.i h l.invariant.1 away, λ all. absurd (omega (arith, all)))
 
 recount-requires : tie.Need-recount-requires invariant-loop decreases-loop
 recount-requires c κs =
-    let c11 = c.before.before.before.before.before.before.before.before.before.before.before in
-    let inv = c11.before.before.before.before.loop.invariant in
+    let inv = c.loop-i.invariant in
     (inv.5.1, inv.3)
 
-recount-requires-2 : tie.Need-recount-requires-2 invariant-loop decreases-loop
+recount-requires-2 : tie.Need-recount-requires-in-loop-i invariant-loop decreases-loop
 recount-requires-2 c κs =
-    let c11 = c.before.before.before.before.before.before.before.before.before.before.before in
-    let inv = c11.before.before.before.before.before.before.loop.invariant in
+    let inv = c.loop-i.invariant in
     (inv.6.1, inv.4)
 
-add-i : tie.Need-overflow-add-i invariant-loop decreases-loop
+add-i : tie.Need-overflow_add-i invariant-loop decreases-loop
 add-i c =
-    let c11 = c.before.before.before.before.before.before.before.before.before.before.before in
-    let c18 = c11.before.before.before.before.before.before.before in
-    let t = c11.before.before.before.before.before.before.loop-test.true in
-    let g = c18.before.before.before.before.before.well-formed in
+    let t = c.loop-i-test.true in
+    let g = c.well_formed in
     record { fits = omega (arith, t, g) }
 
-loop-again : tie.Need-loop-preserved invariant-loop decreases-loop
+loop-again : tie.Need-loop-i-preserved invariant-loop decreases-loop
 loop-again c =
-    let c2 = c.before.before in
-    let c6 = c2.before.before.before.before in
-    let c10 = c6.before.before.before.before in
-    let c14 = c10.before.before.before.before in
-    let c18 = c14.before.before.before.before in
-    let l = c18.loop in
-    let a = c18.before.before.before.before.before.args in
-    let q = a.t1 in
+    let l = c.loop-i in
+    let a = c.args in
+    let q = a.q in
     let nets = a.nets.now in
     let m = get_or nets l.i 0 in
-    let along = c10.end_places.result in
-    let ends = c6.end_places2.result in
-    let found = on_a_side q.pins m along ends c10.end_places.ensures c6.end_places2.ensures
-    c2.before.before.before.has_place.ensures in
-    let here = passed found c2.before.before.if2.false in
-    let inside = passed c14.before.is_Within.ensures c14.if1.false in
-    let counts : Recounts q m 255 along ends l.columns l.tracks c2.recount.new.0 c.recount2.new.0 = record {
-      along = c10.end_places.ensures;
-      ends = c6.end_places2.ensures;
-      on_columns = recounted_along _ q.n.0 255 along ends _ _ l.invariant.5.0 c2.recount.ensures.0;
-      on_tracks = recounted_along _ (box_width q) 255 ends along _ _ l.invariant.6.0 c.recount2.ensures.0;
+    let along = c.end_places-along.result in
+    let ends = c.end_places-ends.result in
+    let found = on_a_side q.pins m along ends c.end_places-along.ensures c.end_places-ends.ensures
+    c.has_place.ensures in
+    let here = passed found c.if-not-has_place.false in
+    let inside = passed c.is_within.ensures c.if-not-is_within.false in
+    let counts : Recounts q m 255 along ends l.columns l.tracks c.recount.new.list c.recount-in-loop-i.new.list = record {
+      along = c.end_places-along.ensures;
+      ends = c.end_places-ends.ensures;
+      on_columns = recounted_along _ q.n.0 255 along ends _ _ l.invariant.5.0 c.recount.ensures.0;
+      on_tracks = recounted_along _ (box_width q) 255 ends along _ _ l.invariant.6.0 c.recount-in-loop-i.ensures.0;
     } in
-    let h = c14.before.before.before.loop-test.true in (
+    let h = c.loop-i-test.true in (
       omega arith,
       there_at (is_there (pins_in q.pins)) nets l.i h l.invariant.1
           (ap (λ (t : Bool). t && is_there (pins_in q.pins) m) inside ∙ here),
       one_taken q nets l.i h along ends (within_in m largest_net inside) here counts l.invariant.2,
-      c2.recount.ensures.1,
-      c.recount2.ensures.1,
+      c.recount.ensures.1,
+      c.recount-in-loop-i.ensures.1,
       l.invariant.5,
       l.invariant.6,
     )
 
-returns-3 : tie.Need-returns-3 invariant-loop decreases-loop
+returns-3 : tie.Need-returns invariant-loop decreases-loop
 returns-3 c =
-    let l = c.before.loop in
-    let a = c.before.before.before.before.before.before.args in
+    let l = c.loop-i in
+    let a = c.args in
     let nets = a.nets.now in
     let end : l.i ≡ length nets = omega arith in
-    (all_at (is_there (pins_in a.t1.pins)) nets l.i end l.invariant.1, λ all. all_taken a.t1 nets l.i end l.invariant.2)
+    (all_at (is_there (pins_in a.q.pins)) nets l.i end l.invariant.1, λ all. all_taken a.q nets l.i end l.invariant.2)
 
 pub counts_without_spec : {M : Type 1} → statement M
 counts_without_spec =

@@ -6,7 +6,7 @@ use Rattle.board_drops.proofs.has_place.Statement.{statement}
 use Rattle.board_drops.proofs.has_place.Tie as tie
 
 returns : tie.Need-returns
-returns c = c.either3.ensures ∙ ap₂ ◌||◌ c.before.before.either.ensures c.before.either2.ensures
+returns c = c.either-3.ensures ∙ ap₂ ◌||◌ c.either.ensures c.either-2.ensures
 
 pub has_place_spec : {M : Type 1} → statement M
 has_place_spec = tie.close (tie.spec (λ c κs. search rules) (λ c κs. search rules) (λ c κs. search rules) returns)

@@ -10,23 +10,23 @@ use Rattle.grid.proofs.Entries.{entry_at}
 use Rattle.board_pins.proofs.is_empty.Statement.{statement}
 use Rattle.board_pins.proofs.is_empty.Tie as tie
 
-returns : tie.Need-returns
-returns c = rw (failed c.before.is_Within.ensures c.if1.true)
+returns : tie.Need-returns-then-not-is_within
+returns c = rw (failed c.is_within.ensures c.if-not-is_within.true)
 
-sub-result : tie.Need-overflow-sub-result
+sub-result : tie.Need-overflow_sub-result
 sub-result c =
-    let a = c.before.before.args in
-    omega (arith, within_in a.place a.places (passed c.before.is_Within.ensures c.if1.false))
+    let a = c.args in
+    omega (arith, within_in a.place a.places (passed c.is_within.ensures c.if-not-is_within.false))
 
-element-copy-out-result : tie.Need-element-copy-out-result
+element-copy-out-result : tie.Need-bounds-side-place
 element-copy-out-result c =
-    let a = c.before.before.args in
-    omega (arith, within_in a.place a.places (passed c.before.is_Within.ensures c.if1.false))
+    let a = c.args in
+    omega (arith, within_in a.place a.places (passed c.is_within.ensures c.if-not-is_within.false))
 
-returns-2 : tie.Need-returns-2
+returns-2 : tie.Need-returns
 returns-2 c =
-    let a = c.before.before.before.args in
-    let within-it = passed c.before.before.is_Within.ensures c.before.if1.false in
+    let a = c.args in
+    let within-it = passed c.is_within.ensures c.if-not-is_within.false in
     rw within-it (ap (λ (x : ℕ). eqb x 0) (sym (entry_at a.side.now a.place (within_in _ _ within-it).0)))
 
 pub is_empty_spec : {M : Type 1} → statement M

@@ -16,85 +16,68 @@ use Rattle.board_law.proofs.Accepted.{Counting, wrong_at, right_at, all_right}
 use Rattle.board_pins.proofs.Frees.{sides_fit, free_place, Stands, stands_none, free_now, one_more}
 use Rattle.board_pins.proofs.place_net.Statement.{statement}
 use Rattle.board_pins.proofs.place_net.Tie as tie
-use Rattle.board_pins.proofs.place_net.Reads as reads
-use Rattle.board_pins.proofs.place_net.Lts as lts
-use Rattle.board_pins.proofs.is_free.Reads as is-free-reads
-use Rattle.board_pins.proofs.put_net.Reads as put-net-reads
 
 abbrev Sizes : List ℕ → List ℕ → List ℕ → List ℕ → Type 0
 Sizes n s w e = (length n ≡ longest_side) × (length s ≡ longest_side) × (length w ≡ longest_side) × (length e ≡ longest_side)
 
-abbrev invariant-loop : tie.invariant-loop
+abbrev invariant-loop : tie.invariant-loop-i
 invariant-loop q net places before north₀ south₀ west₀ east₀ i₀ north south west east i =
     (i ≤ length places) × Counting (is_free q (pins_in q.pins)) places i
     × Stands (pins_in q.pins) net (take i places) (pins_of north south west east) × Sizes north south west east
 
-abbrev decreases-loop : tie.decreases-loop
+abbrev decreases-loop : tie.decreases-loop-i
 decreases-loop q net places before north₀ south₀ west₀ east₀ i₀ north south west east i = length places - i
 
--- what is known where place i of the list is taken; `search` finds it, whatever is lent afterwards
-abbrev Inside : Type 0
-Inside =
-    lts.In-loop (is-free-reads.Asked, is-free-reads.Learnt, put-net-reads.Asked, put-net-reads.Learnt) reads.Pre reads.Post invariant-loop decreases-loop
-
-loop-holds : tie.Need-loop-init invariant-loop decreases-loop
+loop-holds : tie.Need-loop-i-init invariant-loop decreases-loop
 loop-holds c = (omega arith, omega arith, stands_none _ _, search rules)
 
-returns : tie.Need-returns invariant-loop decreases-loop
+returns : tie.Need-returns-then-not-is_free invariant-loop decreases-loop
 returns c =
-    let x : Inside = search rules in
-    let l = x.before.loop in
-    let x8 = x.before.before.before.before.before.before.before.before in
-    let a = x8.args in
+    let l = c.loop-i in
+    let a = c.args in
     let places = a.places.now in
     let p = pins_in a.q.pins in
     let p' = pins_of l.north l.south l.west l.east in
-    let fits = sides_fit a.q x8.pre.0 x8.pre.1 in
+    let fits = sides_fit a.q c.requires.0 c.requires.1 in
     let v = get_or places l.i 0 in
-    let now-free = free_now a.q p p' a.net (take l.i places) x8.pre.2 fits l.inv.2 v in
-    let wrong = sym now-free ∙ failed c.before.is_free.ensures c.if1.true in (
-      wrong_at (is_free a.q p) places l.i x.loop-test.taken l.inv.1 wrong,
+    let now-free = free_now a.q p p' a.net (take l.i places) c.requires.2 fits l.invariant.2 v in
+    let wrong = sym now-free ∙ failed c.is_free.ensures c.if-not-is_free.true in (
+      wrong_at (is_free a.q p) places l.i c.loop-i-test.true l.invariant.1 wrong,
       λ all. absurd (omega (arith, all)),
     )
 
-put-net-requires : tie.Need-put-net-requires invariant-loop decreases-loop
+put-net-requires : tie.Need-put_net-requires invariant-loop decreases-loop
 put-net-requires c κs =
-    let x : Inside = search rules in
-    let x8 = x.before.before.before.before.before.before.before.before in
-    let c4 = c.before.before.before.before in
-    let fits = sides_fit x8.args.q x8.pre.0 x8.pre.1 in
-    (free_place x8.args.q _ _ fits (passed c4.before.is_free.ensures c4.if1.false), x.before.loop.inv.3)
+    let fits = sides_fit c.args.q c.requires.0 c.requires.1 in
+    (free_place c.args.q _ _ fits (passed c.is_free.ensures c.if-not-is_free.false), c.loop-i.invariant.3)
 
-loop-again : tie.Need-loop-preserved invariant-loop decreases-loop
+loop-again : tie.Need-loop-i-preserved invariant-loop decreases-loop
 loop-again c =
-    let x : Inside = search rules in
-    let l = x.before.loop in
-    let x8 = x.before.before.before.before.before.before.before.before in
-    let a = x8.args in
-    let c5 = c.before.before.before.before.before in
+    let l = c.loop-i in
+    let a = c.args in
     let left = c.put_net.new in
     let places = a.places.now in
     let p = pins_in a.q.pins in
     let p' = pins_of l.north l.south l.west l.east in
-    let p'' = pins_of left.0 left.1.0 left.1.1.0 left.1.1.1.0 in
+    let p'' = pins_of left.north left.south left.west left.east in
     let v = get_or places l.i 0 in
-    let h = x.loop-test.taken in
-    let fits = sides_fit a.q x8.pre.0 x8.pre.1 in
-    let now-free = free_now a.q p p' a.net (take l.i places) x8.pre.2 fits l.inv.2 v in
-    let right = sym now-free ∙ passed c5.before.is_free.ensures c5.if1.false in
-    let more = one_more a.q p p' a.net (take l.i places) x8.pre.2 fits l.inv.2 p'' v c.put_net.ensures.0 in
+    let h = c.loop-i-test.true in
+    let fits = sides_fit a.q c.requires.0 c.requires.1 in
+    let now-free = free_now a.q p p' a.net (take l.i places) c.requires.2 fits l.invariant.2 v in
+    let right = sym now-free ∙ passed c.is_free.ensures c.if-not-is_free.false in
+    let more = one_more a.q p p' a.net (take l.i places) c.requires.2 fits l.invariant.2 p'' v c.put_net.ensures.0 in
     let next : take l.i places ++ (v ∷ []) ≡ take (l.i + 1) places =
     sym (ap (λ (k : ℕ). take k places) (add-one l.i) ∙ take-suc places l.i 0 h) in (
       omega arith,
-      right_at (is_free a.q p) places l.i h l.inv.1 right,
+      right_at (is_free a.q p) places l.i h l.invariant.1 right,
       subst (λ (t : List ℕ). Stands p a.net t p'') next more,
       c.put_net.ensures.1,
     )
 
-returns-2 : tie.Need-returns-2 invariant-loop decreases-loop
+returns-2 : tie.Need-returns invariant-loop decreases-loop
 returns-2 c =
-    let l = c.before.loop in
-    let a = c.before.before.before.before.before.before.before.before.args in
+    let l = c.loop-i in
+    let a = c.args in
     let places = a.places.now in
     let end : l.i ≡ length places = omega arith in
     let p' = pins_of l.north l.south l.west l.east in

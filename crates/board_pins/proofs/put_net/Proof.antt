@@ -17,42 +17,42 @@ use Rattle.board_pins.proofs.put_net.Tie as tie
 on : (v : ℕ) (s : Side) → side_in v ≡ s → In (place_in v) longest_side → In (v - place_number s 0) longest_side
 on v s e = subst (λ (t : Side). In (v - place_number t 0) longest_side) e
 
-returns : tie.Need-returns
+returns : tie.Need-returns-then-v-lt-SOUTH_FROM
 returns c =
-    let a = c.before.args in
-    let (place, (sn, ss, sw, se)) = c.before.requires in (
+    let a = c.args in
+    let (place, (sn, ss, sw, se)) = c.requires in (
       put_north a.v a.net a.north.now a.south.now a.west.now a.east.now sn
-          (omega (arith, on a.v north (on_north a.v c.if1.true) place)),
+          (omega (arith, on a.v north (on_north a.v c.if-v-lt-SOUTH_FROM.true) place)),
       (simp length-set sn, ss, sw, se),
     )
 
-returns-2 : tie.Need-returns-2
+returns-2 : tie.Need-returns-then-v-lt-WEST_FROM
 returns-2 c =
-    let a = c.before.before.args in
-    let (place, (sn, ss, sw, se)) = c.before.before.requires in (
+    let a = c.args in
+    let (place, (sn, ss, sw, se)) = c.requires in (
       put_south a.v a.net a.north.now a.south.now a.west.now a.east.now ss
-          (on a.v south (on_south a.v (omega arith) c.if2.true) place),
+          (on a.v south (on_south a.v (omega arith) c.if-v-lt-WEST_FROM.true) place),
       (sn, simp length-set ss, sw, se),
     )
 
-returns-3 : tie.Need-returns-3
+returns-3 : tie.Need-returns-then-v-lt-EAST_FROM
 returns-3 c =
-    let a = c.before.before.before.args in
-    let (place, (sn, ss, sw, se)) = c.before.before.before.requires in (
+    let a = c.args in
+    let (place, (sn, ss, sw, se)) = c.requires in (
       put_west a.v a.net a.north.now a.south.now a.west.now a.east.now sw
-          (on a.v west (on_west a.v (omega arith) c.if3.true) place),
+          (on a.v west (on_west a.v (omega arith) c.if-v-lt-EAST_FROM.true) place),
       (sn, ss, simp length-set sw, se),
     )
 
-element-write-east : tie.Need-element-write-east
+element-write-east : tie.Need-bounds-east-v
 element-write-east c =
-    let a = c.before.before.before.args in
-    omega (arith, on a.v east (on_east a.v (omega arith)) c.before.before.before.requires.0)
+    let a = c.args in
+    omega (arith, on a.v east (on_east a.v (omega arith)) c.requires.0)
 
-returns-4 : tie.Need-returns-4
+returns-4 : tie.Need-returns
 returns-4 c =
-    let a = c.before.before.before.args in
-    let (place, (sn, ss, sw, se)) = c.before.before.before.requires in (
+    let a = c.args in
+    let (place, (sn, ss, sw, se)) = c.requires in (
       put_east a.v a.net a.north.now a.south.now a.west.now a.east.now se
           (on a.v east (on_east a.v (omega arith)) place),
       (sn, ss, sw, simp length-set se),

@@ -6,14 +6,11 @@ use Rattle.board_pins.proofs.without_nets.Tie as tie
 
 returns : tie.Need-returns
 returns c =
-    let c3 = c.before.before.before in
-    let c6 = c3.before.before.before in
-    let c9 = c6.before.before.before in
-    let a = c9.before.before.before.before.args in
-    let ps = a.t1 in
-    left_sides a.nets.now ps.north ps.south ps.west ps.east c9.side_without.result c6.side_without2.result
-    c3.side_without3.result c.side_without4.result
-    c9.side_without.ensures c6.side_without2.ensures c3.side_without3.ensures c.side_without4.ensures
+    let a = c.args in
+    let ps = a.pins in
+    left_sides a.nets.now ps.north ps.south ps.west ps.east c.side_without-north.result c.side_without-south.result
+    c.side_without-west.result c.side_without-east.result
+    c.side_without-north.ensures c.side_without-south.ensures c.side_without-west.ensures c.side_without-east.ensures
 
 pub without_nets_spec : {M : Type 1} → statement M
 without_nets_spec =

@@ -13,31 +13,30 @@ use Rattle.board_sides.proofs.Padding.{padded_is, some_padded}
 use Rattle.board_sides.proofs.side_holds.Statement.{statement}
 use Rattle.board_sides.proofs.side_holds.Tie as tie
 
-abbrev invariant-loop : tie.invariant-loop
+abbrev invariant-loop : tie.invariant-loop-i
 invariant-loop side net long found₀ i₀ found i = (i ≤ padded_side) × (found ≡ some (λ a. eqb (entry long a) net) i)
 
-abbrev decreases-loop : tie.decreases-loop
+abbrev decreases-loop : tie.decreases-loop-i
 decreases-loop side net long found₀ i₀ found i = padded_side - i
 
-loop-holds : tie.Need-loop-init invariant-loop decreases-loop
+loop-holds : tie.Need-loop-i-init invariant-loop decreases-loop
 loop-holds c = (omega arith, sym (some_none_yet _))
 
-loop-again : tie.Need-loop-preserved invariant-loop decreases-loop
+loop-again : tie.Need-loop-i-preserved invariant-loop decreases-loop
 loop-again c =
-    let l = c.before.before.loop in
-    let long = c.before.before.before.padded.result in
-    let net = c.before.before.before.before.args.net in
+    let l = c.loop-i in
+    let long = c.padded-long.result in
+    let net = c.args.net in
     let here = ap (λ (x : ℕ). eqb x net) (sym (entry_next long l.i)) in
-    (omega arith, some_more (λ x. eqb (entry long x) net) l.i _ _ _ l.invariant.1 here c.either.ensures)
+    (omega arith, some_more (λ x. eqb (entry long x) net) l.i _ _ _ l.invariant.1 here c.either-found.ensures)
 
 returns : tie.Need-returns invariant-loop decreases-loop
 returns c =
-    let l = c.before.loop in
-    let p = c.before.before.padded in
-    let start = c.before.before.before in
+    let l = c.loop-i in
+    let p = c.padded-long in
     let e : l.i ≡ padded_side = omega arith in
     l.invariant.1 ∙ ap (some _) e
-    ∙ some_padded start.args.net start.requires (padded_is start.args.side.now p.result p.ensures.0 p.ensures.1)
+    ∙ some_padded c.args.net c.requires (padded_is c.args.side.now p.result p.ensures.0 p.ensures.1)
 
 pub side_holds_spec : {M : Type 1} → statement M
 side_holds_spec =

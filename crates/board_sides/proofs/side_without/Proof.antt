@@ -8,33 +8,30 @@ use Rattle.board_sides.proofs.Left.{Left, left_none, left_more, left_all}
 use Rattle.board_sides.proofs.side_without.Statement.{statement}
 use Rattle.board_sides.proofs.side_without.Tie as tie
 
-abbrev invariant-loop : tie.invariant-loop
+abbrev invariant-loop : tie.invariant-loop-k
 invariant-loop side nets long₀ k₀ long k = Left (take k nets) side long
 
-abbrev decreases-loop : tie.decreases-loop
+abbrev decreases-loop : tie.decreases-loop-k
 decreases-loop side nets long₀ k₀ long k = length nets - k
 
-loop-holds : tie.Need-loop-init invariant-loop decreases-loop
-loop-holds c = left_none c.before.before.args.side.now c.padded.result (search rules) c.padded.ensures.0
+loop-holds : tie.Need-loop-k-init invariant-loop decreases-loop
+loop-holds c = left_none c.args.side.now c.padded-long.result (search rules) c.padded-long.ensures.0
 
-cast-clear : tie.Need-overflow-cast-clear invariant-loop decreases-loop
+cast-clear : tie.Need-overflow_cast-nets invariant-loop decreases-loop
 cast-clear c =
-    let c3 = c.before.before.before in
-    let start = c3.before.before.before in
-    omega (arith, start.requires.each _ (listed_at start.args.nets.now c3.loop.k c.before.before.loop-test.true))
+    omega (arith, c.requires.each _ (listed_at c.args.nets.now c.loop-k.k c.loop-k-test.true))
 
-loop-again : tie.Need-loop-preserved invariant-loop decreases-loop
+loop-again : tie.Need-loop-k-preserved invariant-loop decreases-loop
 loop-again c =
-    let c4 = c.before.before.before.before in
-    let l = c4.loop in
-    let a = c4.before.before.before.args in
-    left_more a.side.now a.nets.now l.long l.k l.invariant c.clear.new.0 c.before.before.before.loop-test.true
+    let l = c.loop-k in
+    let a = c.args in
+    left_more a.side.now a.nets.now l.long l.k l.invariant c.clear.new.long c.loop-k-test.true
     c.clear.ensures.1 c.clear.ensures.0
 
 returns : tie.Need-returns invariant-loop decreases-loop
 returns c =
-    let l = c.before.before.before.loop in
-    let a = c.before.before.before.before.before.before.args in
+    let l = c.loop-k in
+    let a = c.args in
     left_all a.side.now a.nets.now l.long l.k l.invariant c.cut.result (omega arith) c.cut.ensures
 
 pub side_without_spec : {M : Type 1} → statement M

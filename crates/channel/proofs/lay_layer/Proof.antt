@@ -6,32 +6,21 @@ use borrow.Author.Rules.{rules}
 use Rattle.channel.proofs.lay_layer.Statement.{statement}
 use Rattle.channel.proofs.lay_layer.Tie as tie
 
-returns : tie.Need-returns
+returns : tie.Need-returns-then-l-eq1
 returns c =
-    let c2 = c.before.before in
-    let c4 = c2.before.before in
-    let c8 = c4.before.before.before.before in
-    trunk_layer _ c8.args.a.now c8.args.b.now c4.if1.true c8.requires.1 c2.fill.ensures
+    trunk_layer _ c.args.a.now c.args.b.now c.if-l-eq1.true c.requires.1 c.fill.ensures
 
-returns-2 : tie.Need-returns-2
+returns-2 : tie.Need-returns-then-l-eq0
 returns-2 c =
-    let c2 = c.before.before in
-    let c4 = c2.before.before in
-    let c9 = c4.before.before.before.before.before in
-    comb_one _ c9.args.a.now c9.args.b.now c4.if2.true c2.columns.ensures
+    comb_one _ c.args.a.now c.args.b.now c.if-l-eq0.true c.columns.ensures
 
 columns-requires-2 : tie.Need-columns-requires-2
 columns-requires-2 c κs =
-    let c6 = c.before.before.before.before.before.before in
-    c6.requires.1 ∙ ap (λ (u : ℕ). u * c6.args.w) c6.requires.0
+    c.requires.1 ∙ ap (λ (u : ℕ). u * c.args.w) c.requires.0
 
-returns-3 : tie.Need-returns-3
+returns-3 : tie.Need-returns
 returns-3 c =
-    let c2 = c.before.before in
-    let c4 = c2.before.before in
-    let c5 = c4.before in
-    let c9 = c5.before.before.before.before in
-    comb_three _ c9.args.a.now c9.args.b.now c5.if1.false c4.if2.false (sym c9.requires.0) c2.columns2.ensures
+    comb_three _ c.args.a.now c.args.b.now c.if-l-eq1.false c.if-l-eq0.false (sym c.requires.0) c.columns-2.ensures
 
 pub lay_layer_spec : {M : Type 1} → statement M
 lay_layer_spec =

@@ -9,64 +9,47 @@ use Rattle.channel.proofs.Layers.{Stacked, stack_none, stack_room, stack_part, s
 use Rattle.channel.proofs.lay_layers.Statement.{statement}
 use Rattle.channel.proofs.lay_layers.Tie as tie
 
-abbrev invariant-loop : tie.invariant-loop
+abbrev invariant-loop : tie.invariant-loop-l
 invariant-loop wiring₀ a b size columns one three tracks layers from₀ l₀ wiring from l = (length one ≡ length three) × Stacked one three
     (length one) tracks layers size from l wiring₀ wiring
 
-abbrev decreases-loop : tie.decreases-loop
+abbrev decreases-loop : tie.decreases-loop-l
 decreases-loop wiring₀ a b size columns one three tracks layers from₀ l₀ wiring from l = layers - l
 
-slice-aggregate-one : tie.Need-slice-aggregate-one invariant-loop decreases-loop
+slice-aggregate-one : tie.Need-slice_bounds-one-end invariant-loop decreases-loop
 slice-aggregate-one c =
-    let c1 = c.before in
-    let c6 = c1.before.before.before.before.before in
-    sym (length-take-le _ _ (omega (arith, c1.column_count.ensures, c6.requires.2)))
+    sym (length-take-le _ _ (omega (arith, c.column_count-columns.ensures, c.requires.2)))
 
-slice-aggregate-three : tie.Need-slice-aggregate-three invariant-loop decreases-loop
+slice-aggregate-three : tie.Need-slice_bounds-three-end invariant-loop decreases-loop
 slice-aggregate-three c =
-    let c2 = c.before.before in
-    let c7 = c2.before.before.before.before.before in
-    sym (length-take-le _ _ (omega (arith, c2.column_count.ensures, c7.requires.3)))
+    sym (length-take-le _ _ (omega (arith, c.column_count-columns.ensures, c.requires.3)))
 
-loop-holds : tie.Need-loop-init invariant-loop decreases-loop
-loop-holds c =
-    let c1 = c.before in
-    let c3 = c1.before.before in
-    let c4 = c3.before in
-    let c5 = c4.before in
-    let c9 = c5.before.before.before.before in (
-      sym (slice-aggregate-one c3) ∙ slice-aggregate-three c1.before,
-      stack_none _ _ _ _ _ _ _
-          (rw (← slice-aggregate-one c3, c4.column_count.ensures, c1.track_count.ensures) c5.area.ensures)
-          (rw (← slice-aggregate-one c3, c4.column_count.ensures, c1.track_count.ensures, c.layer_count.ensures) c9.requires.4),
-    )
+loop-holds : tie.Need-loop-l-init invariant-loop decreases-loop
+loop-holds c = (
+  sym (slice-aggregate-one c.before.before) ∙ slice-aggregate-three c.before.before,
+  stack_none _ _ _ _ _ _ _
+      (rw (← slice-aggregate-one c.before.before, c.column_count-columns.ensures, c.track_count-tracks.ensures) c.area-size.ensures)
+      (rw (← slice-aggregate-one c.before.before, c.column_count-columns.ensures, c.track_count-tracks.ensures, c.layer_count-layers.ensures) c.requires.4),
+)
 
-add-to : tie.Need-overflow-add-to invariant-loop decreases-loop
+add-to : tie.Need-overflow_add-to invariant-loop decreases-loop
 add-to c =
-    let c1 = c.before in
-    let c11 = c1.before.before.before.before.before.before.before.before.before.before in
-    omega (arith, stack_room c1.loop.invariant.1 c.loop-test.true, c1.loop.invariant.1.drawn.long, c11.well-formed)
+    omega (arith, stack_room c.loop-l.invariant.1 c.loop-l-test.true, c.loop-l.invariant.1.drawn.long, c.well_formed)
 
-part-lay-layer-end : tie.Need-slice-bounds-lay-layer-end invariant-loop decreases-loop
-part-lay-layer-end c = stack_room c.before.loop.invariant.1 c.loop-test.true
+part-lay-layer-end : tie.Need-slice_bounds-lay_layer-end invariant-loop decreases-loop
+part-lay-layer-end c = stack_room c.loop-l.invariant.1 c.loop-l-test.true
 
-lay-layer-requires : tie.Need-lay-layer-requires invariant-loop decreases-loop
-lay-layer-requires c κs = (c.before.before.loop.invariant.0, stack_part c.before.before.loop.invariant.1 c.before.loop-test.true)
+lay-layer-requires : tie.Need-lay_layer-requires invariant-loop decreases-loop
+lay-layer-requires c κs = (c.loop-l.invariant.0, stack_part c.loop-l.invariant.1 c.loop-l-test.true)
 
-loop-again : tie.Need-loop-preserved invariant-loop decreases-loop
+loop-again : tie.Need-loop-l-preserved invariant-loop decreases-loop
 loop-again c =
-    let c2 = c.before.before in
-    let c4 = c2.before.before in
-    let c5 = c4.before in
-    (c5.loop.invariant.0, stack_next c5.loop.invariant.1 c4.loop-test.true c2.lay_layer.ensures)
+    (c.loop-l.invariant.0, stack_next c.loop-l.invariant.1 c.loop-l-test.true c.lay_layer.ensures)
 
 returns : tie.Need-returns invariant-loop decreases-loop
 returns c =
-    let c2 = c.before.before in
-    let c3 = c2.before in
-    let c5 = c3.before.before in
-    rw (← c5.before.column_count.ensures, ← c3.track_count.ensures, ← c2.layer_count.ensures)
-    (stack_all (sym (slice-aggregate-one c5)) c.loop-test.false c.before.loop.invariant.1)
+    rw (← c.column_count-columns.ensures, ← c.track_count-tracks.ensures, ← c.layer_count-layers.ensures)
+    (stack_all (sym (slice-aggregate-one c.before.before.before.before)) c.loop-l-test.false c.loop-l.invariant.1)
 
 pub lay_layers_spec : {M : Type 1} → statement M
 lay_layers_spec =

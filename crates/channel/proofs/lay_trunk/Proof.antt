@@ -9,55 +9,47 @@ use borrow.Author.Rules.{rules}
 use Rattle.channel.proofs.lay_trunk.Statement.{statement}
 use Rattle.channel.proofs.lay_trunk.Tie as tie
 
-add-t15 : tie.Need-overflow-add-t15
-add-t15 c = rw c.track_count.ensures (search rules)
+add-t15 : tie.Need-overflow_add-track
+add-t15 c = rw c.track_count-tracks.ensures (search rules)
 
-mul-t15 : tie.Need-overflow-mul-t15
-mul-t15 c = rw c.track_count.ensures (search rules)
+mul-t15 : tie.Need-overflow_mul-layer
+mul-t15 c = rw c.track_count-tracks.ensures (search rules)
 
-add-t16 : tie.Need-overflow-add-t16
-add-t16 c = rw c.track_count.ensures (search rules)
+add-t16 : tie.Need-overflow_add-layer
+add-t16 c = rw c.track_count-tracks.ensures (search rules)
 
-index-of-requires : tie.Need-index-of-requires
-index-of-requires c κs = rw c.track_count.ensures (search rules)
+index-of-requires : tie.Need-index_of-from-requires
+index-of-requires c κs = rw c.track_count-tracks.ensures (search rules)
 
-add-to : tie.Need-overflow-add-to
+add-to : tie.Need-overflow_add-to
 add-to c =
-    let c2 = c.before.before in
-    let c4 = c2.before.before in
     omega (
       arith,
       c.area.ensures,
-      rw c2.track_count.ensures at c.before.index_of.ensures,
-      layer_in (upright c4.args.n.0 c4.args.w.0 c4.args.k.0) _ c4.requires.1.2.2,
-      c4.requires.0,
-      c4.well-formed,
+      rw c.track_count-tracks.ensures at c.index_of-from.ensures,
+      layer_in (upright c.args.n.0 c.args.w.0 c.args.k.0) _ c.requires.1.2.2,
+      c.requires.0,
+      c.well_formed,
     )
 
-part-paint-trunk-end : tie.Need-slice-bounds-paint-trunk-end
+part-paint-trunk-end : tie.Need-slice_bounds-paint_trunk-end
 part-paint-trunk-end c =
-    let c2 = c.before.before in
-    let c4 = c2.before.before in
     omega (
       arith,
       c.area.ensures,
-      rw c2.track_count.ensures at c.before.index_of.ensures,
-      layer_in (upright c4.args.n.0 c4.args.w.0 c4.args.k.0) _ c4.requires.1.2.2,
-      c4.requires.0,
+      rw c.track_count-tracks.ensures at c.index_of-from.ensures,
+      layer_in (upright c.args.n.0 c.args.w.0 c.args.k.0) _ c.requires.1.2.2,
+      c.requires.0,
     )
 
-paint-trunk-requires : tie.Need-paint-trunk-requires
-paint-trunk-requires c κs = rw c.before.before.before.track_count.ensures (search rules)
+paint-trunk-requires : tie.Need-paint_trunk-requires
+paint-trunk-requires c κs = rw c.track_count-tracks.ensures (search rules)
 
 returns : tie.Need-returns
 returns c =
-    let c2 = c.before.before in
-    let c4 = c2.before.before in
-    let c5 = c4.before in
-    let e = c5.before.track_count.ensures in
-    let c8 = c5.before.before.before in
-    run_put c8.requires.1.0 c8.requires.1.1 c8.requires.1.2 _ _ (rw e at c5.index_of.ensures)
-    (ap (λ (u : ℕ). c5.index_of.result + u) c4.area.ensures) c8.requires.0.3 (rw e at c2.paint_trunk.ensures)
+    let e = c.track_count-tracks.ensures in
+    run_put c.requires.1.0 c.requires.1.1 c.requires.1.2 _ _ (rw e at c.index_of-from.ensures)
+    (ap (λ (u : ℕ). c.index_of-from.result + u) c.area.ensures) c.requires.0.3 (rw e at c.paint_trunk.ensures)
 
 pub lay_trunk_spec : {M : Type 1} → statement M
 lay_trunk_spec =

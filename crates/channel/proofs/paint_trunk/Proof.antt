@@ -7,43 +7,33 @@ use borrow.Author.Rules.{rules}
 use Rattle.channel.proofs.paint_trunk.Statement.{statement}
 use Rattle.channel.proofs.paint_trunk.Tie as tie
 
-add-to-2 : tie.Need-overflow-add-to-2
+add-to-2 : tie.Need-overflow_add-to-2
 add-to-2 c =
-    let c1 = c.before in
-    let c2 = c1.before in
-    let c4 = c2.before.before in
     omega (
       arith,
-      c.column_count2.ensures,
-      c1.column_count.ensures,
-      c2.index_of.ensures,
-      run_in_layer c4.requires.1.0 c4.requires.1.1 c4.requires.1.2,
-      c4.requires.0,
-      c4.well-formed,
+      c.column_count-2.ensures,
+      c.column_count.ensures,
+      c.index_of-at.ensures,
+      run_in_layer c.requires.1.0 c.requires.1.1 c.requires.1.2,
+      c.requires.0,
+      c.well_formed,
     )
 
-part-fill-end : tie.Need-slice-bounds-fill-end
+part-fill-end : tie.Need-slice_bounds-fill-end
 part-fill-end c =
-    let c1 = c.before in
-    let c2 = c1.before in
-    let c4 = c2.before.before in
     omega (
       arith,
-      c.column_count2.ensures,
-      c1.column_count.ensures,
-      c2.index_of.ensures,
-      run_in_layer c4.requires.1.0 c4.requires.1.1 c4.requires.1.2,
-      c4.requires.0,
+      c.column_count-2.ensures,
+      c.column_count.ensures,
+      c.index_of-at.ensures,
+      run_in_layer c.requires.1.0 c.requires.1.1 c.requires.1.2,
+      c.requires.0,
     )
 
 returns : tie.Need-returns
 returns c =
-    let c2 = c.before.before in
-    let c4 = c2.before.before in
-    let c5 = c4.before in
-    let c6 = c5.before in
-    rw (← c6.index_of.ensures, ← c5.column_count.ensures, ← c4.column_count2.ensures)
-    (put_row _ _ (add-sub_cancel_left _ _) (part-fill-end c4) c2.fill.ensures)
+    rw (← c.index_of-at.ensures, ← c.column_count.ensures, ← c.column_count-2.ensures)
+    (put_row _ _ (add-sub_cancel_left _ _) (part-fill-end c.before.before.before.before) c.fill.ensures)
 
 pub paint_trunk_spec : {M : Type 1} → statement M
 paint_trunk_spec =

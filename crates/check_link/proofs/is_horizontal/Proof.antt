@@ -5,11 +5,11 @@ use Rattle.check_link.specs.Edges.{horizontal}
 use Rattle.check_link.proofs.is_horizontal.Statement.{statement}
 use Rattle.check_link.proofs.is_horizontal.Tie as tie
 
-returns : tie.Need-returns
-returns c = sym (ap (λ (b : Bool). horizontal b c.before.args.l) c.if1.true)
+returns : tie.Need-returns-then-first
+returns c = sym (ap (λ (b : Bool). horizontal b c.args.l) c.if-first.true)
 
-returns-2 : tie.Need-returns-2
-returns-2 c = sym (ap (λ (b : Bool). horizontal b c.before.args.l) c.if1.false)
+returns-2 : tie.Need-returns
+returns-2 c = sym (ap (λ (b : Bool). horizontal b c.args.l) c.if-first.false)
 
 pub is_horizontal_spec : {M : Type 1} → statement M
 is_horizontal_spec = tie.close (tie.spec returns returns-2)

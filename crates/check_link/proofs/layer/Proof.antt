@@ -11,46 +11,44 @@ use Rattle.check_link.proofs.Sweeping.{swept_then, swept_at}
 use Rattle.check_link.proofs.layer.Statement.{statement}
 use Rattle.check_link.proofs.layer.Tie as tie
 
-run-if-requires : tie.Need-run-if-requires
-run-if-requires c κs = (λ e. omega (arith, c.before.before.before.requires.0.next e), search rules)
+run-if-requires : tie.Need-run_if-up-requires
+run-if-requires c κs = (λ e. omega (arith, c.requires.0.next e), search rules)
 
-add-result : tie.Need-overflow-add-result
+add-result : tie.Need-overflow_add-result
 add-result c =
-    let args = c.before.before.before.before.before.before.before.before.before.before.before.args in
-    let run_if = c.before.before.before.before.before.before.before.run_if in
-    omega (arith, zeros_le args.m.now, run_if.ensures.less, c.before.before.rows.ensures.less)
+    let args = c.args in
+    let run_if = c.run_if-up in
+    omega (arith, zeros_le args.m.now, run_if.ensures.less, c.rows-on.ensures.less)
 
-returns : tie.Need-returns
+returns : tie.Need-returns-then-flat
 returns c =
-    let run_if = c.before.before.before.before.before.before.before.run_if in
-    let args = c.before.before.before.before.before.before.before.before.before.before.before.args in
-    let if1 = c.before.before.before.before.if1 in
+    let run_if = c.run_if-up in
+    let args = c.args in
+    let if1 = c.if-flat in
     swept_then _ (λ a b e. inl e) (λ a b e. inr e) (λ a b e. e) run_if.ensures
-    (swept_at (Along args.q args.n args.w) true _ (sym if1.true) c.before.before.rows.ensures)
+    (swept_at (Along args.q args.n args.w) true _ (sym if1.true) c.rows-on.ensures)
 
-sub-run : tie.Need-overflow-sub-run
+sub-run : tie.Need-overflow_sub-area
 sub-run c =
-    let start = c.before.before.before.before.before.before.before.before in
-    omega (arith, first_row start.args.n start.args.w start.requires.0.wide)
+    omega (arith, first_row c.args.n c.args.w c.requires.0.wide)
 
-run-requires : tie.Need-run-requires
+run-requires : tie.Need-run-on-requires
 run-requires c κs =
-    let start = c.before.before.before.before.before.before.before.before in
-    omega (arith, first_row start.args.n start.args.w start.requires.0.wide)
+    omega (arith, first_row c.args.n c.args.w c.requires.0.wide)
 
-add-result-2 : tie.Need-overflow-add-result-2
+add-result-2 : tie.Need-overflow_add-result-2
 add-result-2 c =
-    let args = c.before.before.before.before.before.before.before.before.before.before.before.args in
-    let run_if = c.before.before.before.before.before.before.before.run_if in
-    omega (arith, zeros_le args.m.now, run_if.ensures.less, c.before.before.run.ensures.less)
+    let args = c.args in
+    let run_if = c.run_if-up in
+    omega (arith, zeros_le args.m.now, run_if.ensures.less, c.run-on.ensures.less)
 
-returns-2 : tie.Need-returns-2
+returns-2 : tie.Need-returns
 returns-2 c =
-    let run_if = c.before.before.before.before.before.before.before.run_if in
-    let args = c.before.before.before.before.before.before.before.before.before.before.before.args in
-    let if1 = c.before.before.before.before.if1 in
+    let run_if = c.run_if-up in
+    let args = c.args in
+    let if1 = c.if-flat in
     swept_then _ (λ a b e. inl e) (λ a b e. inr e) (λ a b e. e) run_if.ensures
-    (swept_at (Along args.q args.n args.w) false _ (sym if1.false) c.before.before.run.ensures)
+    (swept_at (Along args.q args.n args.w) false _ (sym if1.false) c.run-on.ensures)
 
 pub layer_spec : {M : Type 1} → statement M
 layer_spec =

@@ -16,11 +16,11 @@ asks va vb ma mb e n a b s =
       | no o ↦ s.there e (omega arith) (let h : mb ≢ 1 = λ q. n (omega arith) in omega arith)
     ]
 
-returns-5 : tie.Need-returns-5
+returns-5 : tie.Need-returns
 returns-5 c = (
   λ z. absurd (omega arith),
   λ s. absurd
-      (asks _ _ _ _ c.before.before.before.if1.false c.before.before.if2.false (omega arith) (omega arith) s),
+      (asks _ _ _ _ c.if-va-vb.false c.if-ma-mb.false (omega arith) (omega arith) s),
 )
 
 pub open_spec : {M : Type 1} → statement M

@@ -15,23 +15,23 @@ use Rattle.check_link.proofs.Sweeping.{below_none, below_more, below_all, swept_
 use Rattle.check_link.proofs.points.Statement.{statement}
 use Rattle.check_link.proofs.points.Tie as tie
 
-abbrev invariant-loop : tie.invariant-loop
+abbrev invariant-loop : tie.invariant-loop-l
 invariant-loop x m₀ n w k first made₀ from₀ l₀ m made from l = (l ≤ k) × (from ≡ l * (n * w)) × (length m ≡ length m₀) × Swept (at x) (one m₀) (one m)
     (Below (LayerOf (counted n w k first)) l) made
 
-abbrev decreases-loop : tie.decreases-loop
+abbrev decreases-loop : tie.decreases-loop-l
 decreases-loop x m₀ n w k first made₀ from₀ l₀ m made from l = k - l
 
-loop-holds : tie.Need-loop-init invariant-loop decreases-loop
+loop-holds : tie.Need-loop-l-init invariant-loop decreases-loop
 loop-holds c =
-    let args = c.before.before.args in
+    let args = c.args in
     (search rules, omega (arith, zero-mul (args.n * args.w)), search rules, below_none _)
 
-layer-requires : tie.Need-layer-requires invariant-loop decreases-loop
+layer-requires : tie.Need-layer-made-requires invariant-loop decreases-loop
 layer-requires c κs =
-    let loop = c.before.before.before.loop in
-    let args = c.before.before.before.before.before.before.args in
-    let h = rows_in loop.l args.k (args.n * args.w) c.before.before.loop-test.true in (
+    let loop = c.loop-l in
+    let args = c.args in
+    let h = rows_in loop.l args.k (args.n * args.w) c.loop-l-test.true in (
       record {
         long = omega arith;
         wide = omega arith;
@@ -41,42 +41,41 @@ layer-requires c κs =
       omega arith,
     )
 
-add-made : tie.Need-overflow-add-made invariant-loop decreases-loop
+add-made : tie.Need-overflow_add-made invariant-loop decreases-loop
 add-made c =
-    let args = c.before.before.before.before.before.before.before.before.before.args in
-    let loop = c.before.before.before.before.before.before.loop in
-    omega (arith, zeros_le args.m.now, loop.invariant.3.less, c.before.before.layer.ensures.less)
+    let args = c.args in
+    let loop = c.loop-l in
+    omega (arith, zeros_le args.m.now, loop.invariant.3.less, c.layer-made.ensures.less)
 
-mul-from : tie.Need-overflow-mul-from invariant-loop decreases-loop
+mul-from : tie.Need-overflow_mul-from invariant-loop decreases-loop
 mul-from c =
-    let loop = c.before.before.before.before.before.before.loop in
-    let args = c.before.before.before.before.before.before.before.before.before.args in
-    let loop-test = c.before.before.before.before.before.loop-test in
+    let loop = c.loop-l in
+    let args = c.args in
+    let loop-test = c.loop-l-test in
     omega (arith, rows_in loop.l args.k (args.n * args.w) loop-test.true)
 
-add-from : tie.Need-overflow-add-from invariant-loop decreases-loop
+add-from : tie.Need-overflow_add-from invariant-loop decreases-loop
 add-from c =
-    let loop = c.before.before.before.before.before.before.loop in
-    let args = c.before.before.before.before.before.before.before.before.before.args in
-    let loop-test = c.before.before.before.before.before.loop-test in
+    let loop = c.loop-l in
+    let args = c.args in
+    let loop-test = c.loop-l-test in
     omega (arith, rows_in loop.l args.k (args.n * args.w) loop-test.true)
 
-loop-again : tie.Need-loop-preserved invariant-loop decreases-loop
+loop-again : tie.Need-loop-l-preserved invariant-loop decreases-loop
 loop-again c =
-    let c6 = c.before.before.before.before.before.before in
-    let args = c6.before.before.before.args in
-    let loop = c6.loop in
-    let is_horizontal = c.before.before.before.is_horizontal in (
+    let args = c.args in
+    let loop = c.loop-l in
+    let is_horizontal = c.is_horizontal in (
       search rules,
       omega (arith, next_row loop.l (args.n * args.w)),
       search rules,
       below_more (LayerOf (counted args.n args.w args.k args.first)) _ loop.invariant.3
           (swept_at₂ (λ q b. Layer q args.n args.w (ltb (loop.l + 1) args.k) b) loop.invariant.1 is_horizontal.ensures
-          c.before.before.layer.ensures),
+          c.layer-made.ensures),
     )
 
 returns : tie.Need-returns invariant-loop decreases-loop
-returns c = below_all _ _ _ (omega arith) c.before.loop.invariant.3
+returns c = below_all _ _ _ (omega arith) c.loop-l.invariant.3
 
 pub points_spec : {M : Type 1} → statement M
 points_spec =

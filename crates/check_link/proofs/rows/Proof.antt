@@ -13,46 +13,46 @@ use Rattle.check_link.proofs.Sweeping.{below_none, below_more, below_all, swept_
 use Rattle.check_link.proofs.rows.Statement.{statement}
 use Rattle.check_link.proofs.rows.Tie as tie
 
-abbrev invariant-loop : tie.invariant-loop
+abbrev invariant-loop : tie.invariant-loop-j
 invariant-loop x m₀ q n w made₀ from₀ j₀ m made from j = (j ≤ w) × (from ≡ q + j * n) × (length m ≡ length m₀) × Swept (at x) (one m₀) (one m) (Rows q n j) made
 
-abbrev decreases-loop : tie.decreases-loop
+abbrev decreases-loop : tie.decreases-loop-j
 decreases-loop x m₀ q n w made₀ from₀ j₀ m made from j = w - j
 
-loop-holds : tie.Need-loop-init invariant-loop decreases-loop
-loop-holds c = (search rules, omega (arith, zero-mul c.before.before.args.n), search rules, below_none _)
+loop-holds : tie.Need-loop-j-init invariant-loop decreases-loop
+loop-holds c = (search rules, omega (arith, zero-mul c.args.n), search rules, below_none _)
 
-run-requires : tie.Need-run-requires invariant-loop decreases-loop
+run-requires : tie.Need-run-made-requires invariant-loop decreases-loop
 run-requires c κs =
-    let args = c.before.before.before.before.before.args in
-    omega (arith, rows_in c.before.before.loop.j args.w args.n c.before.loop-test.true)
+    let args = c.args in
+    omega (arith, rows_in c.loop-j.j args.w args.n c.loop-j-test.true)
 
-add-made : tie.Need-overflow-add-made invariant-loop decreases-loop
+add-made : tie.Need-overflow_add-made invariant-loop decreases-loop
 add-made c =
-    let args = c.before.before.before.before.before.before.before.before.args in
-    let loop = c.before.before.before.before.before.loop in
-    omega (arith, zeros_le args.m.now, loop.invariant.3.less, c.before.before.run.ensures.less)
+    let args = c.args in
+    let loop = c.loop-j in
+    omega (arith, zeros_le args.m.now, loop.invariant.3.less, c.run-made.ensures.less)
 
-add-from : tie.Need-overflow-add-from invariant-loop decreases-loop
+add-from : tie.Need-overflow_add-from invariant-loop decreases-loop
 add-from c =
-    let loop = c.before.before.before.before.before.loop in
-    let args = c.before.before.before.before.before.before.before.before.args in
-    let loop-test = c.before.before.before.before.loop-test in
+    let loop = c.loop-j in
+    let args = c.args in
+    let loop-test = c.loop-j-test in
     omega (arith, rows_in loop.j args.w args.n loop-test.true)
 
-loop-again : tie.Need-loop-preserved invariant-loop decreases-loop
+loop-again : tie.Need-loop-j-preserved invariant-loop decreases-loop
 loop-again c =
-    let loop = c.before.before.before.before.before.loop in
-    let args = c.before.before.before.before.before.before.before.before.args in (
+    let loop = c.loop-j in
+    let args = c.args in (
       search rules,
       omega (arith, next_row loop.j args.n),
       search rules,
       below_more (λ j. Run (args.q + j * args.n) (args.n - 1) 1) _
-          loop.invariant.3 (swept_at (λ (q : ℕ). Run q (args.n - 1) 1) _ _ loop.invariant.1 c.before.before.run.ensures),
+          loop.invariant.3 (swept_at (λ (q : ℕ). Run q (args.n - 1) 1) _ _ loop.invariant.1 c.run-made.ensures),
     )
 
 returns : tie.Need-returns invariant-loop decreases-loop
-returns c = below_all _ _ _ (omega arith) c.before.loop.invariant.3
+returns c = below_all _ _ _ (omega arith) c.loop-j.invariant.3
 
 pub rows_spec : {M : Type 1} → statement M
 rows_spec =

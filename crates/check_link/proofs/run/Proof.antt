@@ -4,8 +4,8 @@ use Rattle.check_link.proofs.Sweeping.{swept_quiet}
 use Rattle.check_link.proofs.run.Statement.{statement}
 use Rattle.check_link.proofs.run.Tie as tie
 
-returns : tie.Need-returns
-returns c = swept_quiet _ (c.before.Any-open.ensures.none c.if1.true)
+returns : tie.Need-returns-then-any_open-eq0
+returns c = swept_quiet _ (c.any_open.ensures.none c.if-any_open-eq0.true)
 
 pub run_spec : {M : Type 1} → statement M
 run_spec =

@@ -6,31 +6,31 @@ use Rattle.check_scan.proofs.lowest_of.Tie as tie
 
 lowest-requires : tie.Need-lowest-requires
 lowest-requires c κs =
-    let pre = c.before.before.before.before.requires in
+    let pre = c.requires in
     pre.0
 
 lowest-requires-2 : tie.Need-lowest-requires-2
 lowest-requires-2 c κs =
-    let pre = c.before.before.before.before.before.requires in
+    let pre = c.requires in
     pre.1
 
-returns : tie.Need-returns
+returns : tie.Need-returns-then-best
 returns c =
-    let args = c.before.before.before.before.before.before.before.before.args in
-    let lowest = c.before.before.before.lowest in
-    let lowest2 = c.before.before.lowest2 in
-    let smaller = c.before.smaller_byte in
+    let args = c.args in
+    let lowest = c.lowest in
+    let lowest2 = c.lowest-2 in
+    let smaller = c.smaller_byte-best in
     lowest_none_of args.p.now args.s.now args.x.now args.m.now lowest.result lowest2.result smaller.result lowest.ensures
-    lowest2.ensures smaller.ensures c.if1.true
+    lowest2.ensures smaller.ensures c.if-best.true
 
-returns-2 : tie.Need-returns-2
+returns-2 : tie.Need-returns
 returns-2 c =
-    let args = c.before.before.before.before.before.before.before.before.args in
-    let lowest = c.before.before.before.lowest in
-    let lowest2 = c.before.before.lowest2 in
-    let smaller = c.before.smaller_byte in
+    let args = c.args in
+    let lowest = c.lowest in
+    let lowest2 = c.lowest-2 in
+    let smaller = c.smaller_byte-best in
     lowest_of args.p.now args.s.now args.x.now args.m.now lowest.result lowest2.result smaller.result lowest.ensures
-    lowest2.ensures smaller.ensures c.if1.false
+    lowest2.ensures smaller.ensures c.if-best.false
 
 pub lowest_of_spec : {M : Type 1} → statement M
 lowest_of_spec =

@@ -10,11 +10,11 @@ use Rattle.check_scan.proofs.pin_list.Tie as tie
 
 returns : tie.Need-returns
 returns c =
-    let args = c.before.before.before.before.before.before.before.before.args in
-    let put = c.before.before.before.put in
-    let put2 = c.before.before.put2 in
-    let put3 = c.before.put3 in
-    let put4 = c.put4 in
+    let args = c.args in
+    let put = c.put-list in
+    let put2 = c.put-list-2 in
+    let put3 = c.put-list-3 in
+    let put4 = c.put in
     pin_list args.pins _ put.result put2.result put3.result put4.result (length-replicate {A = ℕ} pin_places 0)
     (zeros_at pin_places) put.ensures put2.ensures
     put3.ensures put4.ensures

@@ -6,21 +6,20 @@ use Rattle.check_step.proofs.Steps.{in_buffer}
 use Rattle.check_step.proofs.advance.Statement.{statement}
 use Rattle.check_step.proofs.advance.Tie as tie
 
-shared-slice-read-v : tie.Need-shared-slice-read-v
-shared-slice-read-v c = (in_buffer c.before.before.before.before.before.requires.0.points c.before.before.before.before.before.requires.1).0
+shared-slice-read-v : tie.Need-bounds-x-q
+shared-slice-read-v c = (in_buffer c.requires.0.points c.requires.1).0
 
-slice-read-mark : tie.Need-slice-read-mark
-slice-read-mark c = (in_buffer c.before.before.before.before.before.before.requires.0.points
-    c.before.before.before.before.before.before.requires.1).1
+slice-read-mark : tie.Need-bounds-m-q
+slice-read-mark c = (in_buffer c.requires.0.points
+    c.requires.1).1
 
 returns : tie.Need-returns
 returns c =
-    let c6 = c.before.before.before.before.before.before in
-    let onward = c.before.before.onward in
+    let onward = c.onward in
     record {
       cell = onward.ensures.cell;
       grown = grown_then
-          (c6.meet.ensures.grown _ _ refl c6.before.before.before.before.before.before.before.before.requires.2) (onward.ensures.grown _ _);
+          (c.meet.ensures.grown _ _ refl c.requires.2) (onward.ensures.grown _ _);
     }
 
 pub advance_spec : {M : Type 1} → statement M

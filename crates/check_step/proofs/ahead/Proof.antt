@@ -6,32 +6,32 @@ use Rattle.check_step.proofs.Steps.{step_right, step_on, small, stay}
 use Rattle.check_step.proofs.ahead.Statement.{statement}
 use Rattle.check_step.proofs.ahead.Tie as tie
 
-add-t12 : tie.Need-overflow-add-t12
-add-t12 c = omega (arith, small c.before.before.before.before.requires.0 c.before.before.before.before.requires.1)
+add-t12 : tie.Need-overflow_add-result
+add-t12 c = omega (arith, small c.requires.0 c.requires.1)
 
-returns : tie.Need-returns
-returns c = step_right c.before.before.before.before.requires.1 (sym c.before.before.is_horizontal.ensures ∙ c.before.if1.true)
-    (omega (arith, c.if2.true, c.before.before.before.column_count.ensures))
+returns : tie.Need-returns-then-i-n
+returns c = step_right c.requires.1 (sym c.is_horizontal.ensures ∙ c.if-is_horizontal.true)
+    (omega (arith, c.if-i-n.true, c.column_count-n.ensures))
 
-returns-2 : tie.Need-returns-2
-returns-2 c = stay c.before.before.before.before.requires.1
+returns-2 : tie.Need-returns-then-is_horizontal
+returns-2 c = stay c.requires.1
 
-add-t17 : tie.Need-overflow-add-t17
+add-t17 : tie.Need-overflow_add-result-then-j-track_count
 add-t17 c = omega (
   arith,
-  small c.before.before.before.before.before.requires.0 c.before.before.before.before.before.requires.1,
-  c.before.before.before.before.column_count.ensures,
-  c.before.before.before.before.before.requires.0,
+  small c.requires.0 c.requires.1,
+  c.column_count-n.ensures,
+  c.requires.0,
 )
 
-returns-3 : tie.Need-returns-3
+returns-3 : tie.Need-returns-then-j-track_count
 returns-3 c =
-    step_on c.before.before.before.before.before.requires.1 (sym c.before.before.before.is_horizontal.ensures ∙ c.before.before.if1.false)
-    c.before.before.before.before.column_count.ensures
-    (omega (arith, c.if3.true, c.before.track_count.ensures))
+    step_on c.requires.1 (sym c.is_horizontal.ensures ∙ c.if-is_horizontal.false)
+    c.column_count-n.ensures
+    (omega (arith, c.if-j-track_count.true, c.track_count.ensures))
 
-returns-4 : tie.Need-returns-4
-returns-4 c = stay c.before.before.before.before.before.requires.1
+returns-4 : tie.Need-returns
+returns-4 c = stay c.requires.1
 
 pub ahead_spec : {M : Type 1} → statement M
 ahead_spec =

@@ -6,21 +6,21 @@ use Rattle.check_step.proofs.Steps.{step_left, step_back, row_before, stay}
 use Rattle.check_step.proofs.behind.Statement.{statement}
 use Rattle.check_step.proofs.behind.Tie as tie
 
-returns : tie.Need-returns
-returns c = step_left c.before.before.before.requires (sym c.before.before.is_horizontal.ensures ∙ c.before.if1.true) c.if2.true
+returns : tie.Need-returns-then-i-gt0
+returns c = step_left c.requires (sym c.is_horizontal.ensures ∙ c.if-is_horizontal.true) c.if-i-gt0.true
 
-returns-2 : tie.Need-returns-2
-returns-2 c = stay c.before.before.before.requires
+returns-2 : tie.Need-returns-then-is_horizontal
+returns-2 c = stay c.requires
 
-sub-t14 : tie.Need-overflow-sub-t14
-sub-t14 c = omega (arith, row_before c.before.before.before.before.requires c.before.if3.true, c.column_count.ensures)
+sub-t14 : tie.Need-overflow_sub-result-then-j-gt0
+sub-t14 c = omega (arith, row_before c.requires c.if-j-gt0.true, c.column_count.ensures)
 
-returns-3 : tie.Need-returns-3
-returns-3 c = step_back c.before.before.before.before.requires (sym c.before.before.before.is_horizontal.ensures ∙ c.before.before.if1.false)
-    c.column_count.ensures c.before.if3.true
+returns-3 : tie.Need-returns-then-j-gt0
+returns-3 c = step_back c.requires (sym c.is_horizontal.ensures ∙ c.if-is_horizontal.false)
+    c.column_count.ensures c.if-j-gt0.true
 
-returns-4 : tie.Need-returns-4
-returns-4 c = stay c.before.before.before.requires
+returns-4 : tie.Need-returns
+returns-4 c = stay c.requires
 
 pub behind_spec : {M : Type 1} → statement M
 behind_spec =

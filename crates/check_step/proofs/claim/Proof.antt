@@ -5,14 +5,14 @@ use borrow.Author.Rules.{rules}
 use Rattle.check_step.proofs.claim.Statement.{statement}
 use Rattle.check_step.proofs.claim.Tie as tie
 
-returns : tie.Need-returns
+returns : tie.Need-returns-then-x-b
 returns c = record { yes = λ e. absurd (false≢true e); no = λ e. refl }
 
-returns-2 : tie.Need-returns-2
+returns-2 : tie.Need-returns-then-m-b-ne0
 returns-2 c = record { yes = λ e. absurd (false≢true e); no = λ e. refl }
 
-returns-3 : tie.Need-returns-3
-returns-3 c = record { yes = λ e. record { free = c.if2.false; same = c.before.before.if1.false; made = refl }; no = λ e. absurd (true≢false e) }
+returns-3 : tie.Need-returns
+returns-3 c = record { yes = λ e. record { free = c.if-m-b-ne0.false; same = c.if-x-b.false; made = refl }; no = λ e. absurd (true≢false e) }
 
 pub claim_spec : {M : Type 1} → statement M
 claim_spec =

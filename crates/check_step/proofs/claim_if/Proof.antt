@@ -5,12 +5,12 @@ use borrow.Author.Rules.{rules}
 use Rattle.check_step.proofs.claim_if.Statement.{statement}
 use Rattle.check_step.proofs.claim_if.Tie as tie
 
-returns : tie.Need-returns
+returns : tie.Need-returns-then-test
 returns c =
-    let if1 = c.before.before.before.before.if1 in
-    (c.before.before.claim.ensures, λ e. if1.true)
+    let if1 = c.if-test in
+    (c.claim.ensures, λ e. if1.true)
 
-returns-2 : tie.Need-returns-2
+returns-2 : tie.Need-returns
 returns-2 c = (record { yes = λ e. absurd (false≢true e); no = λ e. refl }, λ e. absurd (false≢true e))
 
 pub claim_if_spec : {M : Type 1} → statement M

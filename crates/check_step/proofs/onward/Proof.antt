@@ -4,7 +4,7 @@ use Rattle.check_sweep.proofs.Settling.{grown_none}
 use Rattle.check_step.proofs.onward.Statement.{statement}
 use Rattle.check_step.proofs.onward.Tie as tie
 
-returns-5 : tie.Need-returns-5
+returns-5 : tie.Need-returns
 returns-5 c = record { cell = c.retreat.ensures.cell; grown = λ p s. grown_none }
 
 pub onward_spec : {M : Type 1} → statement M

@@ -4,8 +4,8 @@ use Rattle.check_step.proofs.Steps.{stay}
 use Rattle.check_step.proofs.retreat.Statement.{statement}
 use Rattle.check_step.proofs.retreat.Tie as tie
 
-returns-5 : tie.Need-returns-5
-returns-5 c = stay c.before.before.before.before.requires.1
+returns-5 : tie.Need-returns
+returns-5 c = stay c.requires.1
 
 pub retreat_spec : {M : Type 1} → statement M
 retreat_spec =

@@ -6,25 +6,24 @@ use Rattle.check_step.proofs.Steps.{in_buffer}
 use Rattle.check_step.proofs.try_above.Statement.{statement}
 use Rattle.check_step.proofs.try_above.Tie as tie
 
-claim-if-requires : tie.Need-claim-if-requires
-claim-if-requires c κs = in_buffer c.before.before.before.before.requires.fits c.before.above.ensures.cell
+claim-if-requires : tie.Need-claim_if-requires
+claim-if-requires c κs = in_buffer c.requires.fits c.above-to.ensures.cell
 
-returns : tie.Need-returns
+returns : tie.Need-returns-then-claim_if
 returns c =
-    let above = c.before.before.before.before.before.above in
-    moved_to c.before.before.before.before.before.before.before.before.requires above.ensures c.before.before.before.claim_if.ensures.0
+    let above = c.above-to in
+    moved_to c.requires above.ensures c.claim_if.ensures.0
     (λ z. omega arith) above.ensures.cell
 
-try-below-requires : tie.Need-try-below-requires
-try-below-requires c κs = still_ready c.before.before.before.before.before.before.before.before.before.requires
-    c.before.before.before.before.before.before.above.ensures c.before.before.before.before.claim_if.ensures.0 (λ z. omega arith)
-    c.before.before.before.before.claim_if.auto.1.1.0
+try-below-requires : tie.Need-try_below-requires
+try-below-requires c κs = still_ready c.requires
+    c.above-to.ensures c.claim_if.ensures.0 (λ z. omega arith)
+    c.claim_if.auto.m
 
-returns-2 : tie.Need-returns-2
+returns-2 : tie.Need-returns
 returns-2 c =
-    let c7 = c.before.before.before.before.before.before.before in
-    moved_then c7.before.before.before.before.before.requires c7.before.before.above.ensures c7.claim_if.ensures.0 (λ z. omega arith)
-    c.before.before.try_below.ensures
+    moved_then c.requires c.above-to.ensures c.claim_if.ensures.0 (λ z. omega arith)
+    c.try_below.ensures
 
 pub try_above_spec : {M : Type 1} → statement M
 try_above_spec =

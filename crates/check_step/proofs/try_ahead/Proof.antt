@@ -6,25 +6,24 @@ use Rattle.check_step.proofs.Steps.{in_buffer}
 use Rattle.check_step.proofs.try_ahead.Statement.{statement}
 use Rattle.check_step.proofs.try_ahead.Tie as tie
 
-claim-if-requires : tie.Need-claim-if-requires
-claim-if-requires c κs = in_buffer c.before.before.before.before.requires.fits c.before.ahead.ensures.cell
+claim-if-requires : tie.Need-claim_if-requires
+claim-if-requires c κs = in_buffer c.requires.fits c.ahead-to.ensures.cell
 
-returns : tie.Need-returns
+returns : tie.Need-returns-then-claim_if
 returns c =
-    let ahead = c.before.before.before.before.before.ahead in
-    moved_to c.before.before.before.before.before.before.before.before.requires ahead.ensures c.before.before.before.claim_if.ensures.0
+    let ahead = c.ahead-to in
+    moved_to c.requires ahead.ensures c.claim_if.ensures.0
     (λ z. omega arith) ahead.ensures.cell
 
-try-behind-requires : tie.Need-try-behind-requires
-try-behind-requires c κs = still_ready c.before.before.before.before.before.before.before.before.before.requires
-    c.before.before.before.before.before.before.ahead.ensures c.before.before.before.before.claim_if.ensures.0 (λ z. omega arith)
-    c.before.before.before.before.claim_if.auto.1.1.0
+try-behind-requires : tie.Need-try_behind-requires
+try-behind-requires c κs = still_ready c.requires
+    c.ahead-to.ensures c.claim_if.ensures.0 (λ z. omega arith)
+    c.claim_if.auto.m
 
-returns-2 : tie.Need-returns-2
+returns-2 : tie.Need-returns
 returns-2 c =
-    let c7 = c.before.before.before.before.before.before.before in
-    moved_then c7.before.before.before.before.before.requires c7.before.before.ahead.ensures c7.claim_if.ensures.0 (λ z. omega arith)
-    c.before.before.try_behind.ensures
+    moved_then c.requires c.ahead-to.ensures c.claim_if.ensures.0 (λ z. omega arith)
+    c.try_behind.ensures
 
 pub try_ahead_spec : {M : Type 1} → statement M
 try_ahead_spec =

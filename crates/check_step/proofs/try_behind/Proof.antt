@@ -6,25 +6,24 @@ use Rattle.check_step.proofs.Steps.{in_buffer}
 use Rattle.check_step.proofs.try_behind.Statement.{statement}
 use Rattle.check_step.proofs.try_behind.Tie as tie
 
-claim-if-requires : tie.Need-claim-if-requires
-claim-if-requires c κs = in_buffer c.before.before.before.before.requires.fits c.before.behind.ensures.cell
+claim-if-requires : tie.Need-claim_if-requires
+claim-if-requires c κs = in_buffer c.requires.fits c.behind-to.ensures.cell
 
-returns : tie.Need-returns
+returns : tie.Need-returns-then-claim_if
 returns c =
-    let behind = c.before.before.before.before.before.behind in
-    moved_to c.before.before.before.before.before.before.before.before.requires behind.ensures c.before.before.before.claim_if.ensures.0
+    let behind = c.behind-to in
+    moved_to c.requires behind.ensures c.claim_if.ensures.0
     (λ z. omega arith) behind.ensures.cell
 
-try-above-requires : tie.Need-try-above-requires
-try-above-requires c κs = still_ready c.before.before.before.before.before.before.before.before.before.requires
-    c.before.before.before.before.before.before.behind.ensures c.before.before.before.before.claim_if.ensures.0 (λ z. omega arith)
-    c.before.before.before.before.claim_if.auto.1.1.0
+try-above-requires : tie.Need-try_above-requires
+try-above-requires c κs = still_ready c.requires
+    c.behind-to.ensures c.claim_if.ensures.0 (λ z. omega arith)
+    c.claim_if.auto.m
 
-returns-2 : tie.Need-returns-2
+returns-2 : tie.Need-returns
 returns-2 c =
-    let c7 = c.before.before.before.before.before.before.before in
-    moved_then c7.before.before.before.before.before.requires c7.before.before.behind.ensures c7.claim_if.ensures.0 (λ z. omega arith)
-    c.before.before.try_above.ensures
+    moved_then c.requires c.behind-to.ensures c.claim_if.ensures.0 (λ z. omega arith)
+    c.try_above.ensures
 
 pub try_behind_spec : {M : Type 1} → statement M
 try_behind_spec =

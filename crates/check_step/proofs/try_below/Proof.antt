@@ -6,18 +6,18 @@ use Rattle.check_step.proofs.Steps.{in_buffer}
 use Rattle.check_step.proofs.try_below.Statement.{statement}
 use Rattle.check_step.proofs.try_below.Tie as tie
 
-claim-if-requires : tie.Need-claim-if-requires
-claim-if-requires c κs = in_buffer c.before.before.before.before.requires.fits c.before.below.ensures.cell
+claim-if-requires : tie.Need-claim_if-requires
+claim-if-requires c κs = in_buffer c.requires.fits c.below-to.ensures.cell
 
-returns : tie.Need-returns
+returns : tie.Need-returns-then-claim_if
 returns c =
-    let below = c.before.before.before.before.before.below in
-    moved_to c.before.before.before.before.before.before.before.before.requires below.ensures c.before.before.before.claim_if.ensures.0
+    let below = c.below-to in
+    moved_to c.requires below.ensures c.claim_if.ensures.0
     (λ z. omega arith) below.ensures.cell
 
-returns-2 : tie.Need-returns-2
-returns-2 c = moved_to c.before.before.before.before.before.before.before.before.before.requires
-    c.before.before.before.before.before.before.below.ensures c.before.before.before.before.claim_if.ensures.0 (λ z. omega arith)
+returns-2 : tie.Need-returns
+returns-2 c = moved_to c.requires
+    c.below-to.ensures c.claim_if.ensures.0 (λ z. omega arith)
     c.retreat.ensures.cell
 
 pub try_below_spec : {M : Type 1} → statement M

@@ -8,29 +8,29 @@ use Rattle.check_sweep.proofs.Ageing.{Ageing, ageing_start, ageing_more, ageing_
 use Rattle.check_sweep.proofs.age.Statement.{statement}
 use Rattle.check_sweep.proofs.age.Tie as tie
 
-abbrev invariant-loop : tie.invariant-loop
+abbrev invariant-loop : tie.invariant-loop-a
 invariant-loop m₀ a₀ a-end m a = (a ≤ a-end) × (a-end ≡ length m₀) × Ageing m₀ m a
 
-abbrev decreases-loop : tie.decreases-loop
+abbrev decreases-loop : tie.decreases-loop-a
 decreases-loop m₀ a₀ a-end m a = a-end - a
 
-loop-holds : tie.Need-loop-init invariant-loop decreases-loop
+loop-holds : tie.Need-loop-a-init invariant-loop decreases-loop
 loop-holds c = (search rules, search rules, ageing_start _)
 
-slice-read-aged : tie.Need-slice-read-aged invariant-loop decreases-loop
-slice-read-aged c = omega (arith, c.before.before.loop.invariant.2.size)
+slice-read-aged : tie.Need-bounds-m-a invariant-loop decreases-loop
+slice-read-aged c = omega (arith, c.loop-a.invariant.2.size)
 
-slice-write-m : tie.Need-slice-write-m invariant-loop decreases-loop
-slice-write-m c = omega (arith, c.before.before.before.loop.invariant.2.size)
+slice-write-m : tie.Need-bounds-m-a-in-loop-a invariant-loop decreases-loop
+slice-write-m c = omega (arith, c.loop-a.invariant.2.size)
 
-loop-again : tie.Need-loop-preserved invariant-loop decreases-loop
-loop-again c = (search rules, search rules, ageing_more _ _ _ _ (omega arith) c.before.before.before.loop.invariant.2 c.aged.ensures)
+loop-again : tie.Need-loop-a-preserved invariant-loop decreases-loop
+loop-again c = (search rules, search rules, ageing_more _ _ _ _ (omega arith) c.loop-a.invariant.2 c.aged.ensures)
 
-same_length : tie.Need-same-length invariant-loop decreases-loop
-same_length c = c.before.loop.invariant.2.size
+same_length : tie.Need-shape_of-m invariant-loop decreases-loop
+same_length c = c.loop-a.invariant.2.size
 
 returns : tie.Need-returns invariant-loop decreases-loop
-returns c = ageing_end _ _ _ (omega arith) c.before.loop.invariant.2
+returns c = ageing_end _ _ _ (omega arith) c.loop-a.invariant.2
 
 pub age_spec : {M : Type 1} → statement M
 age_spec =

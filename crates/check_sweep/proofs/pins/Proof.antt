@@ -15,61 +15,55 @@ use Rattle.check_link.proofs.Sweeping.{below_none, below_more, below_all, swept_
 use Rattle.check_sweep.proofs.pins.Statement.{statement}
 use Rattle.check_sweep.proofs.pins.Tie as tie
 
-abbrev invariant-loop : tie.invariant-loop
+abbrev invariant-loop : tie.invariant-loop-l
 invariant-loop p s₀ x m₀ n w k first made₀ from₀ l₀ s m made from l = (l ≤ k) × (from ≡ l * (n * w)) × (length s ≡ length s₀) × (length m ≡ length m₀) × Swept
     (val p x) (two s₀ m₀) (two s m) (Below (EndsOf (counted n w k first)) l) made
 
-abbrev decreases-loop : tie.decreases-loop
+abbrev decreases-loop : tie.decreases-loop-l
 decreases-loop p s₀ x m₀ n w k first made₀ from₀ l₀ s m made from l = k - l
 
-loop-holds : tie.Need-loop-init invariant-loop decreases-loop
+loop-holds : tie.Need-loop-l-init invariant-loop decreases-loop
 loop-holds c =
-    let args = c.before.before.before.before.args in
+    let args = c.args in
     (search rules, omega (arith, zero-mul (args.n * args.w)), search rules, search rules, below_none _)
 
-ends-requires : tie.Need-ends-requires invariant-loop decreases-loop
+ends-requires : tie.Need-ends-made-requires invariant-loop decreases-loop
 ends-requires c κs =
-    let start = c.before.before.before.before.before.before.before.before.before in
-    let loop = c.before.before.before.before.loop in
-    omega (arith, start.requires, loop.invariant, rows_in loop.l start.args.k (start.args.n * start.args.w) c.before.before.before.loop-test.true)
+    let loop = c.loop-l in
+    omega (arith, c.requires, loop.invariant, rows_in loop.l c.args.k (c.args.n * c.args.w) c.loop-l-test.true)
 
-add-made : tie.Need-overflow-add-made invariant-loop decreases-loop
+add-made : tie.Need-overflow_add-made invariant-loop decreases-loop
 add-made c =
-    let start = c.before.before.before.before.before.before.before.before.before.before.before.before.before.before in
-    let loop = c.before.before.before.before.before.before.before.before.before.loop in
-    let ends = c.before.before.before.before.ends in
-    omega (arith, zeros_le start.args.s.now, zeros_le start.args.m.now, loop.invariant.4.less, ends.ensures.less, start.well-formed)
+    let loop = c.loop-l in
+    let ends = c.ends-made in
+    omega (arith, zeros_le c.args.s.now, zeros_le c.args.m.now, loop.invariant.4.less, ends.ensures.less, c.well_formed)
 
-mul-from : tie.Need-overflow-mul-from invariant-loop decreases-loop
+mul-from : tie.Need-overflow_mul-from invariant-loop decreases-loop
 mul-from c =
-    let start = c.before.before.before.before.before.before.before.before.before.before.before.before.before.before in
-    let loop = c.before.before.before.before.before.before.before.before.before.loop in
-    let loop-test = c.before.before.before.before.before.before.before.before.loop-test in
-    omega (arith, start.requires, start.well-formed, loop.invariant, rows_in loop.l start.args.k (start.args.n * start.args.w) loop-test.true)
+    let loop = c.loop-l in
+    let loop-test = c.loop-l-test in
+    omega (arith, c.requires, c.well_formed, loop.invariant, rows_in loop.l c.args.k (c.args.n * c.args.w) loop-test.true)
 
-add-from : tie.Need-overflow-add-from invariant-loop decreases-loop
+add-from : tie.Need-overflow_add-from invariant-loop decreases-loop
 add-from c =
-    let start = c.before.before.before.before.before.before.before.before.before.before.before.before.before.before in
-    let loop = c.before.before.before.before.before.before.before.before.before.loop in
-    let loop-test = c.before.before.before.before.before.before.before.before.loop-test in
-    omega (arith, start.requires, start.well-formed, loop.invariant, rows_in loop.l start.args.k (start.args.n * start.args.w) loop-test.true)
+    let loop = c.loop-l in
+    let loop-test = c.loop-l-test in
+    omega (arith, c.requires, c.well_formed, loop.invariant, rows_in loop.l c.args.k (c.args.n * c.args.w) loop-test.true)
 
-loop-again : tie.Need-loop-preserved invariant-loop decreases-loop
+loop-again : tie.Need-loop-l-preserved invariant-loop decreases-loop
 loop-again c =
-    let c4 = c.before.before.before.before in
-    let c9 = c4.before.before.before.before.before in
-    let args = c9.before.before.before.before.before.args in
-    let loop = c9.loop in (
+    let args = c.args in
+    let loop = c.loop-l in (
       search rules,
       omega (arith, loop.invariant, next_row loop.l (args.n * args.w)),
       search rules,
       search rules,
       below_more (EndsOf (counted args.n args.w args.k args.first)) _ loop.invariant.4
-          (swept_at₂ (λ q b. Ends q args.n args.w b) loop.invariant.1 c4.before.is_horizontal.ensures c4.ends.ensures),
+          (swept_at₂ (λ q b. Ends q args.n args.w b) loop.invariant.1 c.is_horizontal.ensures c.ends-made.ensures),
     )
 
 returns : tie.Need-returns invariant-loop decreases-loop
-returns c = below_all _ _ _ (omega arith) c.before.loop.invariant.4
+returns c = below_all _ _ _ (omega arith) c.loop-l.invariant.4
 
 pub pins_spec : {M : Type 1} → statement M
 pins_spec =

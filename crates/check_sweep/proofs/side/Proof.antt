@@ -15,48 +15,45 @@ use Rattle.check_link.proofs.Sweeping.{below_none, below_more, below_all, swept_
 use Rattle.check_sweep.proofs.side.Statement.{statement}
 use Rattle.check_sweep.proofs.side.Tie as tie
 
-abbrev invariant-loop : tie.invariant-loop
+abbrev invariant-loop : tie.invariant-loop-t
 invariant-loop p s₀ first x m₀ start gap count made₀ from₀ t₀ s m made from t = (t ≤ count) × (from ≡ start + t * gap) × (length s ≡ length s₀) ×
     (length m ≡ length m₀) × Swept (val p x) (two s₀ m₀) (two s m) (PinRun first start gap t) made
 
-abbrev decreases-loop : tie.decreases-loop
+abbrev decreases-loop : tie.decreases-loop-t
 decreases-loop p s₀ first x m₀ start gap count made₀ from₀ t₀ s m made from t = count - t
 
-loop-holds : tie.Need-loop-init invariant-loop decreases-loop
+loop-holds : tie.Need-loop-t-init invariant-loop decreases-loop
 loop-holds c =
-    let args = c.before.before.before.before.args in
+    let args = c.args in
     (search rules, omega (arith, zero-mul args.gap), search rules, search rules, below_none _)
 
-add-touch : tie.Need-overflow-add-touch invariant-loop decreases-loop
+add-touch : tie.Need-overflow_add-first invariant-loop decreases-loop
 add-touch c =
-    let pre = c.before.before.before.before.before.before.before.requires in
+    let pre = c.requires in
     omega (arith, pre)
 
-touch-requires : tie.Need-touch-requires invariant-loop decreases-loop
+touch-requires : tie.Need-touch-made-requires invariant-loop decreases-loop
 touch-requires c κs =
-    let start = c.before.before.before.before.before.before.before.before in
-    let loop = c.before.before.before.loop in
-    omega (arith, start.requires, rows_in loop.t start.args.count start.args.gap c.before.before.loop-test.true, loop.invariant)
+    let loop = c.loop-t in
+    omega (arith, c.requires, rows_in loop.t c.args.count c.args.gap c.loop-t-test.true, loop.invariant)
 
-add-made : tie.Need-overflow-add-made invariant-loop decreases-loop
+add-made : tie.Need-overflow_add-made invariant-loop decreases-loop
 add-made c =
-    let start = c.before.before.before.before.before.before.before.before.before.before.before.before.before in
-    let loop = c.before.before.before.before.before.before.before.before.loop in
-    let touch = c.before.before.before.before.touch in
-    omega (arith, zeros_le start.args.s.now, zeros_le start.args.m.now, loop.invariant.4.less, touch.ensures.less, start.well-formed)
+    let loop = c.loop-t in
+    let touch = c.touch-made in
+    omega (arith, zeros_le c.args.s.now, zeros_le c.args.m.now, loop.invariant.4.less, touch.ensures.less, c.well_formed)
 
-add-from : tie.Need-overflow-add-from invariant-loop decreases-loop
+add-from : tie.Need-overflow_add-from invariant-loop decreases-loop
 add-from c =
-    let start = c.before.before.before.before.before.before.before.before.before.before.before.before.before in
-    let loop = c.before.before.before.before.before.before.before.before.loop in
-    let loop-test = c.before.before.before.before.before.before.before.loop-test in
-    omega (arith, start.requires, start.well-formed, rows_in loop.t start.args.count start.args.gap loop-test.true, loop.invariant)
+    let loop = c.loop-t in
+    let loop-test = c.loop-t-test in
+    omega (arith, c.requires, c.well_formed, rows_in loop.t c.args.count c.args.gap loop-test.true, loop.invariant)
 
-loop-again : tie.Need-loop-preserved invariant-loop decreases-loop
+loop-again : tie.Need-loop-t-preserved invariant-loop decreases-loop
 loop-again c =
-    let loop = c.before.before.before.before.before.before.before.before.loop in
-    let args = c.before.before.before.before.before.before.before.before.before.before.before.before.before.args in
-    let touch = c.before.before.before.before.touch in (
+    let loop = c.loop-t in
+    let args = c.args in
+    let touch = c.touch-made in (
       search rules,
       omega (arith, next_row loop.t args.gap, loop.invariant),
       search rules,
@@ -67,7 +64,7 @@ loop-again c =
     )
 
 returns : tie.Need-returns invariant-loop decreases-loop
-returns c = below_all _ _ _ (omega arith) c.before.loop.invariant.4
+returns c = below_all _ _ _ (omega arith) c.loop-t.invariant.4
 
 pub side_spec : {M : Type 1} → statement M
 side_spec =

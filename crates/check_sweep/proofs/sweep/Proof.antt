@@ -13,41 +13,33 @@ use Rattle.check_sweep.proofs.Spots.{inner}
 use Rattle.check_sweep.proofs.sweep.Statement.{statement}
 use Rattle.check_sweep.proofs.sweep.Tie as tie
 
-same_grid : (c : tie.After-layer-count)
-    → let args = c.before.before.before.before.before.before.before.args in
-    counted c.before.before.column_count.result c.before.track_count.result c.layer_count.result args.f.first ≡ grid_of args.f
+same_grid : (c : tie.After-layer_count-k)
+    → let args = c.args in
+    counted c.column_count-n.result c.track_count-w.result c.layer_count-k.result args.f.first ≡ grid_of args.f
 same_grid c i =
     record {
-      n = c.before.before.column_count.ensures i;
-      w = c.before.track_count.ensures i;
-      k = c.layer_count.ensures i;
-      first = c.before.before.before.before.before.before.before.args.f.first;
+      n = c.column_count-n.ensures i;
+      w = c.track_count-w.ensures i;
+      k = c.layer_count-k.ensures i;
+      first = c.args.f.first;
     }
 
-points-requires : tie.Need-points-requires
+points-requires : tie.Need-points-a-requires
 points-requires c κs =
-    let start = c.before.before.before.before.before.before.before.before in
-    (still_fits (same_grid c.before) refl refl start.requires).points
+    (still_fits (same_grid c.before) refl refl c.requires).points
 
-pins-requires : tie.Need-pins-requires
+pins-requires : tie.Need-pins-b-requires
 pins-requires c κs =
-    let c4 = c.before.before.before.before in
-    let start = c4.before.before.before.before.before.before.before.before.before in
-    still_fits (same_grid c4.before.before) refl c4.points.auto.1.0 start.requires
+    still_fits (same_grid c.before.before.before.before.before.before) refl c.points-a.auto.m c.requires
 
-add-result : tie.Need-overflow-add-result
+add-result : tie.Need-overflow_add-result
 add-result c =
-    let c4 = c.before.before.before.before in
-    let c9 = c4.before.before.before.before.before in
-    let start = c9.before.before.before.before.before.before.before.before.before in
-    omega (arith, zeros_le start.args.s.now, zeros_le start.args.m.now, c9.points.ensures.less, c4.pins.ensures.less, start.well-formed)
+    omega (arith, zeros_le c.args.s.now, zeros_le c.args.m.now, c.points-a.ensures.less, c.pins-b.ensures.less, c.well_formed)
 
 returns : tie.Need-returns
 returns c =
-    let c4 = c.before.before.before.before in
-    let c9 = c4.before.before.before.before.before in
-    swept_at Edges _ _ (same_grid c9.before.before)
-    (swept_then _ (λ a b e. inl e) (λ a b e. inr e) (λ a b e. e) (inner _ _ _ _ _ c9.points.ensures) c4.pins.ensures)
+    swept_at Edges _ _ (same_grid c.before.before.before.before.before.before.before.before.before.before.before)
+    (swept_then _ (λ a b e. inl e) (λ a b e. inr e) (λ a b e. e) (inner _ _ _ _ _ c.points-a.ensures) c.pins-b.ensures)
 
 pub sweep_spec : {M : Type 1} → statement M
 sweep_spec =

@@ -7,26 +7,25 @@ use Rattle.check_walk.proofs.begin.Statement.{statement}
 use Rattle.check_walk.proofs.begin.Tie as tie
 
 claim-requires : tie.Need-claim-requires
-claim-requires c κs = in_buffer c.before.before.before.before.before.before.before.before.requires.0.points
-    c.before.before.before.before.before.before.before.before.requires.1.cell
+claim-requires c κs = in_buffer c.requires.0.points
+    c.requires.1.cell
 
-returns : tie.Need-returns
+returns : tie.Need-returns-then-claim
 returns c =
-    let c10 = c.before.before.before.before.before.before.before.before.before.before in
-    let pre = c10.before.before.before.before.before.before.before.before.before.requires in
+    let pre = c.requires in
     grown_then
-    (begun pre.1 (c10.before.before.before.before.is_of.ensures.0 c10.before.before.before.if1.true) c10.claim.ensures
+    (begun c.args.p.now pre.1 (c.is_of.ensures.0 c.if-is_of.true) c.claim.ensures
     (in_buffer pre.0.points pre.1.cell).1)
-    c.before.before.before.before.walk.ensures
+    c.walk.ensures
 
-returns-2 : tie.Need-returns-2
+returns-2 : tie.Need-returns-else-claim
 returns-2 c =
-    let pre = c.before.before.before.before.before.before.before.before.before.before.before.before.requires in
-    begun pre.1 (c.before.before.before.before.before.before.before.is_of.ensures.0
-    c.before.before.before.before.before.before.if1.true) c.before.before.before.claim.ensures
+    let pre = c.requires in
+    begun c.args.p.now pre.1 (c.is_of.ensures.0
+    c.if-is_of.true) c.claim.ensures
     (in_buffer pre.0.points pre.1.cell).1
 
-returns-3 : tie.Need-returns-3
+returns-3 : tie.Need-returns-else-is_of
 returns-3 c = grown_none
 
 pub begin_spec : {M : Type 1} → statement M

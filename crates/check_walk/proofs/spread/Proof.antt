@@ -10,35 +10,35 @@ use Rattle.check_sweep.proofs.Settling.{grown_none, grown_then}
 use Rattle.check_walk.proofs.spread.Statement.{statement}
 use Rattle.check_walk.proofs.spread.Tie as tie
 
-abbrev invariant-loop : tie.invariant-loop
+abbrev invariant-loop : tie.invariant-loop-rounds
 invariant-loop p s₀ x m₀ f rounds₀ s m rounds = (length s ≡ length s₀) × (length m ≡ length m₀) × Grown (val p x) (two s₀ m₀) (two s m) (Edges (grid_of f))
 
-abbrev decreases-loop : tie.decreases-loop
+abbrev decreases-loop : tie.decreases-loop-rounds
 decreases-loop p s₀ x m₀ f rounds₀ s m rounds = rounds
 
-loop-holds : tie.Need-loop-init invariant-loop decreases-loop
+loop-holds : tie.Need-loop-rounds-init invariant-loop decreases-loop
 loop-holds c = (refl, refl, grown_none)
 
-take-up-all-requires : tie.Need-take-up-all-requires invariant-loop decreases-loop
+take-up-all-requires : tie.Need-take_up_all-requires invariant-loop decreases-loop
 take-up-all-requires c κs =
-    let pre = c.before.before.before.before.before.before.before.before.requires in
-    let loop = c.before.before.before.loop in
+    let pre = c.requires in
+    let loop = c.loop-rounds in
     omega (arith, pre, loop.invariant.0, loop.invariant.1)
 
-returns : tie.Need-returns invariant-loop decreases-loop
+returns : tie.Need-returns-then-take_up_all-eq0 invariant-loop decreases-loop
 returns c =
-    let loop = c.before.before.before.before.before.before.before.before.before.loop in
-    let take_up_all = c.before.before.before.before.before.take_up_all in
+    let loop = c.loop-rounds in
+    let take_up_all = c.take_up_all in
     grown_then loop.invariant.2 take_up_all.ensures
 
-loop-again : tie.Need-loop-preserved invariant-loop decreases-loop
+loop-again : tie.Need-loop-rounds-preserved invariant-loop decreases-loop
 loop-again c =
-    let loop = c.before.before.before.before.before.before.before.before.before.loop in
-    let take_up_all = c.before.before.before.before.before.take_up_all in
+    let loop = c.loop-rounds in
+    let take_up_all = c.take_up_all in
     (search rules, search rules, grown_then loop.invariant.2 take_up_all.ensures)
 
-returns-2 : tie.Need-returns-2 invariant-loop decreases-loop
-returns-2 c = c.before.loop.invariant.2
+returns-2 : tie.Need-returns invariant-loop decreases-loop
+returns-2 c = c.loop-rounds.invariant.2
 
 pub spread_spec : {M : Type 1} → statement M
 spread_spec =

@@ -17,65 +17,63 @@ use Rattle.check_step.proofs.Steps.{small}
 use Rattle.check_walk.proofs.walk_from.Statement.{statement}
 use Rattle.check_walk.proofs.walk_from.Tie as tie
 
-abbrev invariant-loop : tie.invariant-loop
+abbrev invariant-loop : tie.invariant-loop-l
 invariant-loop p s₀ x m₀ a flat f i j each q₀ l₀ l-end s m q l =
     (l ≤ l-end) × (q ≡ l * (f.n.0 * f.w.0) + j * f.n.0 + i) × (length s ≡ length s₀) × (length m ≡ length m₀) × (at s a ≢ 0)
     × Grown (val p x) (two s₀ m₀) (two s m) (Edges (grid_of f))
 
-abbrev decreases-loop : tie.decreases-loop
+abbrev decreases-loop : tie.decreases-loop-l
 decreases-loop p s₀ x m₀ a flat f i j each q₀ l₀ l-end s m q l = l-end - l
 
-area-requires : tie.Need-area-requires invariant-loop decreases-loop
-area-requires c κs = (c.before.before.before.before.requires.0.points.shape.long.1, c.before.before.before.before.requires.0.points.shape.wide.1)
+area-requires : tie.Need-area-each-requires invariant-loop decreases-loop
+area-requires c κs = (c.requires.0.points.shape.long.1, c.requires.0.points.shape.wide.1)
 
-loop-holds : tie.Need-loop-init invariant-loop decreases-loop
+loop-holds : tie.Need-loop-l-init invariant-loop decreases-loop
 loop-holds c =
-    let start = c.before.before.before.before.before.before in
-    let area = start.args.f.n.0 * start.args.f.w.0 in
-    (search rules, omega (arith, start.requires.1.cell.is, ap (λ (u : ℕ). u * area) start.requires.2), refl, refl, start.requires.1.marked, grown_none)
+    let area = c.args.f.n.0 * c.args.f.w.0 in
+    (search rules, omega (arith, c.requires.1.cell.is, ap (λ (u : ℕ). u * area) c.requires.2), refl, refl, c.requires.1.marked, grown_none)
 
 -- the pin's point on the layer that the loop has come to
-on-layer : (c : tie.After-begin-arg2 invariant-loop decreases-loop)
-    → let loop = c.before.before.before.loop in
-    let args = c.before.before.before.before.before.before.before.before.before.before.args in
+on-layer : (c : tie.After-begin-arg-in-loop-l-1 invariant-loop decreases-loop)
+    → let loop = c.loop-l in
+    let args = c.args in
     On (grid_of args.f) (record { q = loop.q; i = args.c.i; j = args.c.j; l = loop.l; d = 1 })
 on-layer c =
-    let cell = c.before.before.before.before.before.before.before.before.before.before.requires.1.cell in
+    let cell = c.requires.1.cell in
     record {
       column = cell.column;
       track = cell.track;
-      layer = omega (arith, c.before.before.loop-test.true, c.before.before.before.before.layer_count.ensures);
-      is = c.before.before.before.loop.invariant.1;
+      layer = omega (arith, c.loop-l-test.true, c.layer_count-l-end.ensures);
+      is = c.loop-l.invariant.1;
     }
 
 begin-requires : tie.Need-begin-requires invariant-loop decreases-loop
 begin-requires c κs =
-    let start = c.before.before.before.before.before.before.before.before.before.before in
-    let loop = c.before.before.before.loop in (
-      still_fits refl loop.invariant.2 loop.invariant.3 start.requires.0,
-      record { place = start.requires.1.place; marked = loop.invariant.4; cell = on-layer c; tip = start.requires.1.tip },
+    let loop = c.loop-l in (
+      still_fits refl loop.invariant.2 loop.invariant.3 c.requires.0,
+      record { place = c.requires.1.place; marked = loop.invariant.4; cell = on-layer c; tip = c.requires.1.tip },
     )
 
-add-q : tie.Need-overflow-add-q invariant-loop decreases-loop
+add-q : tie.Need-overflow_add-q invariant-loop decreases-loop
 add-q c = omega (
   arith,
   small
-      c.before.before.before.before.before.before.before.before.before.before.before.before.before.before.before.requires.0.points.shape
+      c.requires.0.points.shape
       (on-layer c.before.before.before.before.before),
-  c.before.before.before.before.before.before.before.before.before.before.area.ensures,
+  c.area-each.ensures,
 )
 
-loop-again : tie.Need-loop-preserved invariant-loop decreases-loop
+loop-again : tie.Need-loop-l-preserved invariant-loop decreases-loop
 loop-again c =
-    let loop = c.before.before.before.before.before.before.before.before.loop in
-    let args = c.before.before.before.before.before.before.before.before.before.before.before.before.before.before.before.args in
-    let begin = c.before.before.before.before.begin in (
+    let loop = c.loop-l in
+    let args = c.args in
+    let begin = c.begin in (
       search rules,
       omega (
         arith,
         loop.invariant.1,
         next_row loop.l (args.f.n.0 * args.f.w.0),
-        c.before.before.before.before.before.before.before.before.before.before.area.ensures,
+        c.area-each.ensures,
       ),
       search rules,
       search rules,
@@ -84,7 +82,7 @@ loop-again c =
     )
 
 returns : tie.Need-returns invariant-loop decreases-loop
-returns c = c.before.loop.invariant.5
+returns c = c.loop-l.invariant.5
 
 pub walk_from_spec : {M : Type 1} → statement M
 walk_from_spec =

@@ -8,60 +8,59 @@ use Rattle.checker.proofs.Refusals.{counts}
 use Rattle.checker.proofs.early_refusal.Statement.{statement}
 use Rattle.checker.proofs.early_refusal.Tie as tie
 
-returns : tie.Need-returns
+returns : tie.Need-returns-then-refusal-ne0
 unfolding check_refusal
-returns c = simp (ne_eqb _ _ c.if1.true)
+returns c = simp (ne_eqb _ _ c.if-refusal-ne0.true)
 
-points-requires : tie.Need-points-requires
+points-requires : tie.Need-points-size-requires
 points-requires c κs =
-    let start = c.before.before.before.before.before.before in
-    let good = start.requires c.before.before.before.if1.false in
-    let q = start.args.t.problem in
-    let h = counts q start.args.w.0 start.args.k.0 (sym c.before.has_counts.ensures ∙ c.if2.true) (known q.kind good.kind) in
+    let good = c.requires c.if-refusal-ne0.false in
+    let q = c.args.t.problem in
+    let h = counts q c.args.w.0 c.args.k.0 (sym c.has_counts.ensures ∙ c.if-has_counts.true) (known q.kind good.kind) in
     (good.columns.1, h.0, h.1)
 
-returns-2 : tie.Need-returns-2
+returns-2 : tie.Need-returns-then-wiring-size
 unfolding check_refusal
 returns-2 c =
     simp (
-      eq-eqb _ _ c.before.before.before.before.before.before.if1.false,
-      sym c.before.before.before.before.has_counts.ensures
-          ∙ c.before.before.before.if2.true,
-      ← c.before.before.points.ensures,
-      ne_eqb _ _ c.before.if3.true,
+      eq-eqb _ _ c.if-refusal-ne0.false,
+      sym c.has_counts.ensures
+          ∙ c.if-has_counts.true,
+      ← c.points-size.ensures,
+      ne_eqb _ _ c.if-wiring-size.true,
       c.refuse.ensures,
     )
 
-returns-3 : tie.Need-returns-3
+returns-3 : tie.Need-returns-then-scratch-size
 unfolding check_refusal
 returns-3 c =
     simp (
-      eq-eqb _ _ c.before.before.before.before.before.before.before.if1.false,
-      sym c.before.before.before.before.before.has_counts.ensures ∙ c.before.before.before.before.if2.true,
-      ← c.before.before.before.points.ensures,
-      eq-eqb _ _ c.before.before.if3.false,
-      lt-leb _ _ c.before.if4.true,
-      c.refuse2.ensures,
+      eq-eqb _ _ c.if-refusal-ne0.false,
+      sym c.has_counts.ensures ∙ c.if-has_counts.true,
+      ← c.points-size.ensures,
+      eq-eqb _ _ c.if-wiring-size.false,
+      lt-leb _ _ c.if-scratch-size.true,
+      c.refuse-then-scratch-size.ensures,
     )
 
-returns-4 : tie.Need-returns-4
+returns-4 : tie.Need-returns-then-has_counts
 unfolding check_refusal
 returns-4 c =
     simp (
-      eq-eqb _ _ c.before.before.before.before.before.before.before.if1.false,
-      sym c.before.before.before.before.before.has_counts.ensures ∙ c.before.before.before.before.if2.true,
-      ← c.before.before.before.points.ensures,
-      eq-eqb _ _ c.before.before.if3.false,
-      le-leb _ _ c.before.if4.false,
-      c.refuse3.ensures,
+      eq-eqb _ _ c.if-refusal-ne0.false,
+      sym c.has_counts.ensures ∙ c.if-has_counts.true,
+      ← c.points-size.ensures,
+      eq-eqb _ _ c.if-wiring-size.false,
+      le-leb _ _ c.if-scratch-size.false,
+      c.refuse-then-has_counts.ensures,
     )
 
-returns-5 : tie.Need-returns-5
+returns-5 : tie.Need-returns
 unfolding check_refusal
 returns-5 c = simp (
-  eq-eqb _ _ c.before.before.before.before.if1.false,
-  sym c.before.before.has_counts.ensures ∙ c.before.if2.false,
-  c.refuse4.ensures,
+  eq-eqb _ _ c.if-refusal-ne0.false,
+  sym c.has_counts.ensures ∙ c.if-has_counts.false,
+  c.refuse-2.ensures,
 )
 
 pub early_refusal_spec : {M : Type 1} → statement M

@@ -9,27 +9,25 @@ use Rattle.checker.proofs.has_width.Statement.{statement}
 use Rattle.checker.proofs.has_width.Tie as tie
 
 -- the test of w against the widest, on the tracks that were counted
-is : (c : tie.After-is-within)
-    → let args = c.before.before.before.args in within args.w.0 (widest args.q.kind) ≡ c.is_Within.result
-is c = sym (c.is_Within.ensures ∙ ap₂ within c.before.before.track_count.ensures c.before.widest.ensures)
+is : (c : tie.After-is_within)
+    → let args = c.args in within args.w.0 (widest args.q.kind) ≡ c.is_within.result
+is c = sym (c.is_within.ensures ∙ ap₂ within c.track_count-tracks.ensures c.widest.ensures)
 
-returns : tie.Need-returns
+returns : tie.Need-returns-then-q-eq-BOX
 returns c =
-    let c4 = c.before.before.before.before in
-    let args = c4.before.before.before.args in
-    ap₂ eqb c4.before.before.track_count.ensures c.wide.ensures
-    ∙ sym (own_width args.q args.w.0 _ (is c4) c.before.before.before.if1.true c.before.if2.true)
+    let args = c.args in
+    ap₂ eqb c.track_count-tracks.ensures c.wide.ensures
+    ∙ sym (own_width args.q args.w.0 _ (is c.before.before.before.before) c.if-is_within.true c.if-q-eq-BOX.true)
 
-returns-2 : tie.Need-returns-2
+returns-2 : tie.Need-returns-then-is_within
 returns-2 c =
-    let c3 = c.before.before.before in
-    let args = c3.before.before.before.args in
-    sym (any_width args.q args.w.0 _ (is c3) c.before.before.if1.true c.if2.false)
+    let args = c.args in
+    sym (any_width args.q args.w.0 _ (is c.before.before.before) c.if-is_within.true c.if-q-eq-BOX.false)
 
-returns-3 : tie.Need-returns-3
+returns-3 : tie.Need-returns
 returns-3 c =
-    let args = c.before.before.before.before.args in
-    sym (no_width args.q args.w.0 _ (is c.before) c.if1.false)
+    let args = c.args in
+    sym (no_width args.q args.w.0 _ (is c.before) c.if-is_within.false)
 
 pub has_width_spec : {M : Type 1} → statement M
 has_width_spec =

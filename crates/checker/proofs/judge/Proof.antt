@@ -10,64 +10,51 @@ use Rattle.checker.proofs.Answers.{judged_foreign, judged_legal, judged_broken}
 use Rattle.checker.proofs.judge.Statement.{statement}
 use Rattle.checker.proofs.judge.Tie as tie
 
-open-nets-requires : tie.Need-open-nets-requires
+open-nets-requires : tie.Need-open_nets-known-requires
 open-nets-requires c κs =
-    let pre = c.before.before.before.before.before.requires in
+    let pre = c.requires in
     (pre.pins, pre.pin_marks)
 
-first-unknown-requires : tie.Need-first-unknown-requires
+first-unknown-requires : tie.Need-first_unknown-q-requires
 first-unknown-requires c κs =
-    let start = c.before.before.before.before.before.before.before.before.before.before.before.before in
-    let area = ap₂ ◌*◌ c.before.before.column_count.ensures c.before.track_count.ensures in
-    (start.requires.points.size ∙ sym (ap₂ ◌*◌ area c.layer_count.ensures), search rules)
+    let area = ap₂ ◌*◌ c.column_count.ensures c.track_count.ensures in
+    (c.requires.points.size ∙ sym (ap₂ ◌*◌ area c.layer_count.ensures), search rules)
 
-returns : tie.Need-returns
+returns : tie.Need-returns-then-q-x
 returns c =
-    let first = c.before.before.first_unknown in
-    let c9 = c.before.before.before.before.before.before.before.before.before in
-    let start = c9.before.before.before.before.before.before in
+    let first = c.first_unknown-q in
     record {
       judged = λ p l.
-          judged_foreign _ l start.requires.points.size c9.open_nets.ensures
-          (λ b. omega (arith, c9.before.before.before.shared-slice-known2.given b)) c.refuse.ensures first.ensures c.before.if1.true;
+          judged_foreign _ l c.requires.points.size c.open_nets-known.ensures
+          (λ b. omega (arith, c.shared_slice_known-2-1.given b)) c.refuse.ensures first.ensures c.if-q-x.true;
     }
 
-torn-requires : tie.Need-torn-requires
+torn-requires : tie.Need-torn-net-requires
 torn-requires c κs =
-    let c10 = c.before.before.before.before.before.before.before.before.before.before in
-    let start = c10.before.before.before.before.before.before in
-    let kept = c10.open_nets.auto.1.0 in (
-      still_fits refl kept refl start.requires,
-      all_firsts _ _ _ start.requires.pins (kept ∙ start.requires.pin_marks) c10.open_nets.ensures,
+    let kept = c.open_nets-known.auto.s in (
+      still_fits refl kept refl c.requires,
+      all_firsts _ _ _ c.requires.pins (kept ∙ c.requires.pin_marks) c.open_nets-known.ensures,
     )
 
-returns-2 : tie.Need-returns-2
+returns-2 : tie.Need-returns-then-net-eq0
 returns-2 c =
-    let c6 = c.before.before.before.before.before.before in
-    let c10 = c6.before.before.before.before in
-    let c17 = c10.before.before.before.before.before.before.before in
-    let start = c17.before.before.before.before.before.before in
-    let first = c10.first_unknown in
+    let first = c.first_unknown-q in
     record {
       judged = λ p l.
-          judged_legal _ l start.requires.points.size c17.open_nets.ensures
-          (λ b. omega (arith, c17.before.before.before.shared-slice-known2.given b)) first.ensures
-          (omega (arith, first.ensures.within, c6.before.before.before.if1.false)) c6.torn.ensures c.refuse2.ensures c.before.if2.true;
+          judged_legal _ l c.requires.points.size c.open_nets-known.ensures
+          (λ b. omega (arith, c.shared_slice_known-2-1.given b)) first.ensures
+          (omega (arith, first.ensures.within, c.if-q-x.false)) c.torn-net.ensures c.refuse-then-net-eq0.ensures c.if-net-eq0.true;
     }
 
-returns-3 : tie.Need-returns-3
+returns-3 : tie.Need-returns
 returns-3 c =
-    let c7 = c.before.before.before.before.before.before.before in
-    let c11 = c7.before.before.before.before in
-    let c18 = c11.before.before.before.before.before.before.before in
-    let start = c18.before.before.before.before.before.before in
-    let first = c11.first_unknown in
+    let first = c.first_unknown-q in
     record {
       judged = λ p l.
-          judged_broken _ l start.requires.points.size c18.open_nets.ensures
-          (λ b. omega (arith, c18.before.before.before.shared-slice-known2.given b)) first.ensures
-          (omega (arith, first.ensures.within, c7.before.before.before.if1.false)) c7.torn.ensures
-          (c.refuse3.ensures ∙ ap (refusal 15) c.before.wide.ensures) c.before.before.if2.false;
+          judged_broken _ l c.requires.points.size c.open_nets-known.ensures
+          (λ b. omega (arith, c.shared_slice_known-2-1.given b)) first.ensures
+          (omega (arith, first.ensures.within, c.if-q-x.false)) c.torn-net.ensures
+          (c.refuse-2.ensures ∙ ap (refusal 15) c.wide.ensures) c.if-net-eq0.false;
     }
 
 pub judge_spec : {M : Type 1} → statement M

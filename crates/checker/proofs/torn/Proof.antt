@@ -7,58 +7,53 @@ use Rattle.checker.proofs.torn.Tie as tie
 
 spread-requires : tie.Need-spread-requires
 spread-requires c κs =
-    let pre = c.before.before.before.before.before.before.before.before.before.before.requires in
-    let clear = c.before.before.before.before.clear in
+    let pre = c.requires in
+    let clear = c.clear in
     omega (arith, pre.0, clear.auto)
 
 settle-requires : tie.Need-settle-requires
 settle-requires c κs =
-    let pre = c.before.before.before.before.before.before.before.before.before.before.before.before.before.before.before.before.before.requires in
-    let clear = c.before.before.before.before.before.before.before.before.before.before.before.clear in
-    let spread = c.before.before.before.before.before.before.spread in
+    let pre = c.requires in
+    let clear = c.clear in
+    let spread = c.spread in
     omega (arith, pre.0, clear.auto, spread.auto)
 
-lowest-of-requires : tie.Need-lowest-of-requires
+lowest-of-requires : tie.Need-lowest_of-requires
 lowest-of-requires c κs =
-    let c10 = c.before.before.before.before.before.before.before.before.before.before in
-    let pre = c10.before.before.before.before.before.before.before.before.before.before.before.before.before.before.requires in
-    let clear = c10.before.before.before.before.before.before.before.before.clear in
-    let spread = c10.before.before.before.spread in
-    let settle = c.before.before.before.before.before.before.settle in
+    let pre = c.requires in
+    let clear = c.clear in
+    let spread = c.spread in
+    let settle = c.settle in
     omega (arith, pre.0, clear.auto, spread.auto, settle.auto)
 
-same_length : tie.Need-same-length
+same_length : tie.Need-shape_of-s
 same_length c =
-    let c10 = c.before.before.before.before.before.before.before.before.before.before in
-    let pre = c10.before.before.before.before.before.before.before.before.before.before.before.before.before.before.before.requires in
-    let clear = c10.before.before.before.before.before.before.before.before.before.clear in
-    let spread = c10.before.before.before.before.spread in
-    let settle = c.before.before.before.before.before.before.before.settle in
+    let pre = c.requires in
+    let clear = c.clear in
+    let spread = c.spread in
+    let settle = c.settle in
     omega (arith, pre.0, clear.auto, spread.auto, settle.auto)
 
-same-length-2 : tie.Need-same-length-2
+same-length-2 : tie.Need-shape_of-m
 same-length-2 c =
-    let c10 = c.before.before.before.before.before.before.before.before.before.before in
-    let pre = c10.before.before.before.before.before.before.before.before.before.before.before.before.before.before.before.requires in
-    let clear = c10.before.before.before.before.before.before.before.before.before.clear in
-    let spread = c10.before.before.before.before.spread in
-    let settle = c.before.before.before.before.before.before.before.settle in
+    let pre = c.requires in
+    let clear = c.clear in
+    let spread = c.spread in
+    let settle = c.settle in
     omega (arith, pre.0, clear.auto, spread.auto, settle.auto)
 
 returns : tie.Need-returns
 returns c =
-    let c10 = c.before.before.before.before.before.before.before.before.before.before in
-    let start = c10.before.before.before.before.before.before.before.before.before.before.before.before.before.before.before in
-    let settle = c.before.before.before.before.before.before.before.settle in
-    let clear = c10.before.before.before.before.before.before.before.before.before.clear in
-    let spread = c10.before.before.before.before.spread in
+    let settle = c.settle in
+    let clear = c.clear in
+    let spread = c.spread in
     record {
-      s = settle.new.1.0;
-      m = settle.new.1.1.1.0;
+      s = settle.new.s;
+      m = settle.new.m;
       marking = record {
-        s₀ = start.args.s.now;
-        m₀ = clear.new.0;
-        firsts = start.requires.1;
+        s₀ = c.args.s.now;
+        m₀ = clear.new.m;
+        firsts = c.requires.1;
         clear = clear.ensures;
         settled = settled_after
             spread.ensures settle.ensures;

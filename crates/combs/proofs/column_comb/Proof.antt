@@ -5,26 +5,21 @@ use Rattle.paint.proofs.Laws.{first_fits, first_size, first_repeated}
 use Rattle.combs.proofs.column_comb.Statement.{statement}
 use Rattle.combs.proofs.column_comb.Tie as tie
 
-slice-relend-prefix-fill-row : tie.Need-slice-relend-prefix-fill-row
+slice-relend-prefix-fill-row : tie.Need-slice_bounds-fill_row-end
 slice-relend-prefix-fill-row c =
-    let c2 = c.before.before in
-    first_fits _ c2.args.w c2.args.part.now c2.requires.1 c2.requires.2
+    first_fits _ c.args.w c.args.part.now c.requires.1 c.requires.2
 
-slice-aggregate-fill-row : tie.Need-slice-aggregate-fill-row
+slice-aggregate-fill-row : tie.Need-slice_bounds-fill_row-end-2
 slice-aggregate-fill-row c =
-    let c3 = c.before.before.before in
-    sym (first_size _ c3.args.w c3.args.part.now c3.requires.1 c3.requires.2)
+    sym (first_size _ c.args.w c.args.part.now c.requires.1 c.requires.2)
 
-fill-row-requires : tie.Need-fill-row-requires
+fill-row-requires : tie.Need-fill_row-requires
 fill-row-requires c κs =
-    let c3 = c.before.before.before in
-    (c3.requires.0.1, first_size _ c3.args.w c3.args.part.now c3.requires.1 c3.requires.2)
+    (c.requires.0.1, first_size _ c.args.w c.args.part.now c.requires.1 c.requires.2)
 
 returns : tie.Need-returns
 returns c =
-    let c6 = c.before.before.before.before.before.before in
-    let c10 = c6.before.before.before.before in
-    first_repeated _ _ c10.args.part.now c10.requires.1 c10.requires.2 refl c6.fill_row.ensures c.before.before.repeat.ensures
+    first_repeated _ _ c.args.part.now c.requires.1 c.requires.2 refl c.fill_row.ensures c.repeat.ensures
 
 pub column_comb_spec : {M : Type 1} → statement M
 column_comb_spec =

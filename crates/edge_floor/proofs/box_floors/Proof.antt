@@ -18,67 +18,56 @@ tables c =
     spans_from (tables_of a.norths.now a.souths.now a.first.now a.last.now)
     (tables_of a.wests.now a.easts.now a.low.now a.high.now)
 
-most-need-requires : tie.Need-most-need-requires
+most-need-requires : tie.Need-most_need-columns-requires
 most-need-requires c κs =
-    let sized = c.before.before.before in
-    let f = sized.before.before.before in
-    let start = f.before in
-    let good = start.requires.0 in
-    let kind = start.requires.1 in
-    let n = sized.before.column_count.ensures in
-    let w = sized.wide.ensures in (
-      column_ends good kind n w (tables start) start.requires.2,
-      across_few good kind n w (tables start) start.requires.2 (ap (λ f. f.across) f.figures_of.ensures),
+    let good = c.requires.0 in
+    let kind = c.requires.1 in
+    let n = c.column_count-n.ensures in
+    let w = c.wide-w.ensures in (
+      column_ends good kind n w (tables c.before.before.before.before.before.before) c.requires.2,
+      across_few good kind n w (tables c.before.before.before.before.before.before) c.requires.2 (ap (λ c. c.across) c.figures_of-f.ensures),
     )
 
-most-need-requires-2 : tie.Need-most-need-requires-2
+most-need-requires-2 : tie.Need-most_need-tracks-requires
 most-need-requires-2 c κs =
-    let sized = c.before.before.before.before.before.before.before in
-    let f = sized.before.before.before in
-    let start = f.before in
-    let good = start.requires.0 in
-    let kind = start.requires.1 in
-    let n = sized.before.column_count.ensures in
-    let w = sized.wide.ensures in (
-      track_ends good kind n w (tables start) start.requires.2,
-      up_few good kind n w (tables start) start.requires.2 (ap (λ f. f.up) f.figures_of.ensures),
+    let good = c.requires.0 in
+    let kind = c.requires.1 in
+    let n = c.column_count-n.ensures in
+    let w = c.wide-w.ensures in (
+      track_ends good kind n w (tables c.before.before.before.before.before.before.before.before.before) c.requires.2,
+      up_few good kind n w (tables c.before.before.before.before.before.before.before.before.before) c.requires.2 (ap (λ c. c.up) c.figures_of-f.ensures),
     )
 
 -- the sizes that needs are divided by
-sizes-in : (c : tie.After-wide) → In c.before.column_count.result longest_side × In c.wide.result longest_side
+sizes-in : (c : tie.After-wide-w) → In c.column_count-n.result longest_side × In c.wide-w.result longest_side
 sizes-in c =
-    let start = c.before.before.before.before in
-    let n = c.before.column_count.ensures in
-    (length_in start.requires.0 start.requires.1 n c.wide.ensures, width_in start.requires.0 start.requires.1 n c.wide.ensures)
+    let n = c.column_count-n.ensures in
+    (length_in c.requires.0 c.requires.1 n c.wide-w.ensures, width_in c.requires.0 c.requires.1 n c.wide-w.ensures)
 
-rounded-up-requires : tie.Need-rounded-up-requires
+rounded-up-requires : tie.Need-rounded_up-requires
 rounded-up-requires c κs =
     omega (
       arith,
-      c.before.before.before.before.most_need.ensures.small,
-      c.most_need2.ensures.small,
-      sizes-in c.before.before.before.before.before.before.before.before,
+      c.most_need-columns.ensures.small,
+      c.most_need-tracks.ensures.small,
+      sizes-in c.before.before.before.before.before.before,
     )
 
-rounded-up-requires-2 : tie.Need-rounded-up-requires-2
+rounded-up-requires-2 : tie.Need-rounded_up-requires-2
 rounded-up-requires-2 c κs =
     omega (
       arith,
-      c.before.before.before.before.before.most_need.ensures.small,
-      c.before.most_need2.ensures.small,
-      sizes-in c.before.before.before.before.before.before.before.before.before,
+      c.most_need-columns.ensures.small,
+      c.most_need-tracks.ensures.small,
+      sizes-in c.before.before.before.before.before.before.before,
     )
 
 returns : tie.Need-returns
 returns c =
-    let columns = c.before.before.before.before.before.before.before.before in
-    let sized = columns.before.before.before.before in
-    let f = sized.before.before.before in
-    let start = f.before in
-    box_answered start.requires.0 start.requires.1 sized.before.column_count.ensures sized.wide.ensures (tables start)
-    start.requires.2 f.figures_of.ensures columns.most_need.ensures c.before.before.before.before.most_need2.ensures
-    (c.before.floor_for.ensures ∙ ap₂ floor c.before.before.before.rounded_up.ensures.0
-    c.before.before.rounded_up2.ensures.0)
+    box_answered c.requires.0 c.requires.1 c.column_count-n.ensures c.wide-w.ensures (tables c.before.before.before.before.before.before.before.before.before.before.before.before.before.before)
+    c.requires.2 c.figures_of-f.ensures c.most_need-columns.ensures c.most_need-tracks.ensures
+    (c.floor_for-edge.ensures ∙ ap₂ floor c.rounded_up.ensures.0
+    c.rounded_up-2.ensures.0)
 
 pub box_floors_spec : {M : Type 1} → statement M
 box_floors_spec =

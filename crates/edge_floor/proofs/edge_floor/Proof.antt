@@ -7,31 +7,22 @@ use Rattle.edge_floor.proofs.Promise.{no_box, tells_refused, tells_good}
 use Rattle.edge_floor.proofs.edge_floor.Statement.{statement}
 use Rattle.edge_floor.proofs.edge_floor.Tie as tie
 
-returns : tie.Need-returns
+returns : tie.Need-returns-then-refusal-ne0
 returns c =
-    let p = c.before.before.before.before in
-    tells_refused p.before.before.args.ticket.now p.parse_spans.ensures.0 c.before.if1.true c.refused.ensures
+    tells_refused c.args.ticket.now c.parse_spans-t.ensures.0 c.if-refusal-ne0.true c.refused.ensures
 
-returns-2 : tie.Need-returns-2
+returns-2 : tie.Need-returns-then-q-ne-BOX
 returns-2 c =
-    let kind = c.before.before in
-    let read = kind.before.before.before in
-    let p = read.before.before.before in
-    tells_good p.before.before.args.ticket.now p.parse_spans.ensures.0 read.if1.false
-    (c.refused2.ensures ∙ ap refused c.before.refuse.ensures ∙ no_box p.parse_spans.result.problem kind.if2.true)
+    tells_good c.args.ticket.now c.parse_spans-t.ensures.0 c.if-refusal-ne0.false
+    (c.refused-then-q-ne-BOX.ensures ∙ ap refused c.refuse.ensures ∙ no_box c.parse_spans-t.result.problem c.if-q-ne-BOX.true)
 
-box-floors-requires : tie.Need-box-floors-requires
+box-floors-requires : tie.Need-box_floors-requires
 box-floors-requires c κs =
-    let kind = c.before.before.before.before.before.before.before.before.before in
-    let read = kind.before.before.before in
-    let p = read.before.before.before in
-    (reading_good _ p.parse_spans.ensures.0 read.if1.false, kind.if2.false, p.parse_spans.ensures.1 read.if1.false)
+    (reading_good _ c.parse_spans-t.ensures.0 c.if-refusal-ne0.false, c.if-q-ne-BOX.false, c.parse_spans-t.ensures.1 c.if-refusal-ne0.false)
 
-returns-3 : tie.Need-returns-3
+returns-3 : tie.Need-returns
 returns-3 c =
-    let read = c.before.before.before.before.before.before.before.before.before.before.before.before.before in
-    let p = read.before.before.before in
-    tells_good p.before.before.args.ticket.now p.parse_spans.ensures.0 read.if1.false c.box_floors.ensures
+    tells_good c.args.ticket.now c.parse_spans-t.ensures.0 c.if-refusal-ne0.false c.box_floors.ensures
 
 pub edge_floor_spec : {M : Type 1} → statement M
 edge_floor_spec =

@@ -9,56 +9,52 @@ use Rattle.edge_floor.proofs.Held.{held, held_none, held_le, entered_le, held_mo
 use Rattle.edge_floor.proofs.held_counts.Statement.{statement}
 use Rattle.edge_floor.proofs.held_counts.Tie as tie
 
-abbrev invariant-loop : tie.invariant-loop
+abbrev invariant-loop : tie.invariant-loop-i
 invariant-loop a b places held₀ i₀ counts i = Table (held a b i) counts × (i ≤ places)
 
-abbrev decreases-loop : tie.decreases-loop
+abbrev decreases-loop : tie.decreases-loop-i
 decreases-loop a b places held₀ i₀ counts i = places - i
 
-loop-holds : tie.Need-loop-init invariant-loop decreases-loop
+loop-holds : tie.Need-loop-i-init invariant-loop decreases-loop
 loop-holds c = (held_none c.args.a.now c.args.b.now, omega arith)
 
-add-held : tie.Need-overflow-add-held invariant-loop decreases-loop
+add-held : tie.Need-overflow_add-held invariant-loop decreases-loop
 add-held c =
-    let l = c.before.before.before.loop in
-    let start = c.before.before.before.before in
-    let m = c.before.net_at.ensures in
-    let k = c.net_at2.ensures in
+    let l = c.loop-i in
+    let m = c.net_at-m.ensures in
+    let k = c.net_at-k.ensures in
     omega (
       arith,
-      start.requires.0,
-      held_le start.args.a.now start.args.b.now l.held l.i _ _ m.0 k.0 m.1 k.1 l.invariant.0,
+      c.requires.0,
+      held_le c.args.a.now c.args.b.now l.held l.i _ _ m.0 k.0 m.1 k.1 l.invariant.0,
     )
 
-add-held-2 : tie.Need-overflow-add-held-2 invariant-loop decreases-loop
+add-held-2 : tie.Need-overflow_add-held-in-loop-i invariant-loop decreases-loop
 add-held-2 c =
-    let l = c.before.before.before.before.loop in
-    let start = c.before.before.before.before.before in
-    let m = c.before.before.net_at.ensures in
-    let k = c.before.net_at2.ensures in
+    let l = c.loop-i in
+    let m = c.net_at-m.ensures in
+    let k = c.net_at-k.ensures in
     omega (
       arith,
-      start.requires.0,
-      entered_le start.args.a.now start.args.b.now l.held l.i _ _ m.0 k.0 m.1 k.1 l.invariant.0,
-      none_or_one (eqb c.before.before.net_at.result c.before.net_at2.result) c.choose.ensures,
+      c.requires.0,
+      entered_le c.args.a.now c.args.b.now l.held l.i _ _ m.0 k.0 m.1 k.1 l.invariant.0,
+      none_or_one (eqb c.net_at-m.result c.net_at-k.result) c.choose.ensures,
     )
 
-loop-again : tie.Need-loop-preserved invariant-loop decreases-loop
+loop-again : tie.Need-loop-i-preserved invariant-loop decreases-loop
 loop-again c =
-    let l = c.before.before.before.before.loop in
-    let start = c.before.before.before.before.before in
-    let m = c.before.before.net_at.ensures in
-    let k = c.before.net_at2.ensures in (
-      held_more start.args.a.now start.args.b.now l.held l.i _ _ m.0 k.0 m.1 k.1 l.invariant.0
+    let l = c.loop-i in
+    let m = c.net_at-m.ensures in
+    let k = c.net_at-k.ensures in (
+      held_more c.args.a.now c.args.b.now l.held l.i _ _ m.0 k.0 m.1 k.1 l.invariant.0
           c.choose.ensures,
       omega arith,
     )
 
 returns : tie.Need-returns invariant-loop decreases-loop
 returns c =
-    let l = c.before.loop in
-    let start = c.before.before in
-    let e : l.i ≡ start.args.places = omega arith in
+    let l = c.loop-i in
+    let e : l.i ≡ c.args.places = omega arith in
     rw (← e) (net_table _ l.held l.invariant.0)
 
 pub held_counts_spec : {M : Type 1} → statement M

@@ -12,11 +12,10 @@ use Rattle.edge_floor.proofs.Needs.{needs_one, needs_two}
 use Rattle.edge_floor.proofs.most_need.Statement.{statement}
 use Rattle.edge_floor.proofs.most_need.Tie as tie
 
-need-at-requires : tie.Need-need-at-requires
+need-at-requires : tie.Need-need_at-requires
 need-at-requires c κs =
-    let start = c.before.before.before in
-    let a = start.args in
-    omega (arith, start.requires.0.places, two_sides (entry a.a.now) (entry a.b.now) a.w c.before.held_counts.ensures)
+    let a = c.args in
+    omega (arith, c.requires.0.places, two_sides (entry a.a.now) (entry a.b.now) a.w c.held_counts-beside.ensures)
 
 -- the pins of either side fit a byte
 fits : (c : tie.Start) → let a = c.args in
@@ -28,28 +27,26 @@ fits c =
       omega (arith, ends.places, one_side (entry a.b.now) a.w ends.fars),
     )
 
-need-at-requires-2 : tie.Need-need-at-requires-2
+need-at-requires-2 : tie.Need-need_at-begin-requires
 need-at-requires-2 c κs = omega (arith, fits c.before)
 
-need-at-requires-3 : tie.Need-need-at-requires-3
+need-at-requires-3 : tie.Need-need_at-end-requires
 need-at-requires-3 c κs = omega (arith, fits c.before.before)
 
-returns : tie.Need-returns
+returns : tie.Need-returns-then-n-eq1
 returns c =
-    let start = c.before.before.before.before.before in
-    let only = c.before.need_at.ensures in
-    let held = c.before.before.before.held_counts in
-    needs_one start.requires.0 start.args.first.now start.args.last.now start.requires.1 held.result
-    c.before.before.before.before.if1.true held.ensures only.0 only.1 c.larger.ensures
+    let only = c.need_at.ensures in
+    let held = c.held_counts-beside in
+    needs_one c.requires.0 c.args.first.now c.args.last.now c.requires.1 held.result
+    c.if-n-eq1.true held.ensures only.0 only.1 c.larger.ensures
 
-returns-2 : tie.Need-returns-2
+returns-2 : tie.Need-returns
 returns-2 c =
-    let start = c.before.before.before.before.before in
-    let begin = c.before.before.before.need_at2.ensures in
-    let end = c.before.before.need_at3.ensures in
-    needs_two start.requires.0 start.args.first.now start.args.last.now start.requires.1
-    (omega (arith, start.requires.0.columns, c.before.before.before.before.if1.false)) begin.0 end.0 (begin.1, end.1)
-    (c.larger3.ensures ∙ ap (max start.args.across) c.before.larger2.ensures)
+    let begin = c.need_at-begin.ensures in
+    let end = c.need_at-end.ensures in
+    needs_two c.requires.0 c.args.first.now c.args.last.now c.requires.1
+    (omega (arith, c.requires.0.columns, c.if-n-eq1.false)) begin.0 end.0 (begin.1, end.1)
+    (c.larger-3.ensures ∙ ap (max c.args.across) c.larger-2.ensures)
 
 pub most_need_spec : {M : Type 1} → statement M
 most_need_spec =

@@ -12,64 +12,61 @@ use Rattle.edge_floor.proofs.Needs.{two_sums}
 use Rattle.edge_floor.proofs.need_at.Statement.{statement}
 use Rattle.edge_floor.proofs.need_at.Tie as tie
 
-abbrev invariant-loop : tie.invariant-loop
+abbrev invariant-loop : tie.invariant-loop-m
 invariant-loop first last near far beside past c pins₀ others₀ m₀ pins others m =
     (pins ≡ sum (at beside) m) × (others ≡ count (other_from first last near far beside past c) m) × (others ≤ m) × (m ≤ largest_net)
 
-abbrev decreases-loop : tie.decreases-loop
+abbrev decreases-loop : tie.decreases-loop-m
 decreases-loop first last near far beside past c pins₀ others₀ m₀ pins others m = largest_net - m
 
-loop-holds : tie.Need-loop-init invariant-loop decreases-loop
+loop-holds : tie.Need-loop-m-init invariant-loop decreases-loop
 loop-holds c = (sym (sum_none _), sym (sum_none _), omega arith, omega arith)
 
-add-pins : tie.Need-overflow-add-pins invariant-loop decreases-loop
+add-pins : tie.Need-overflow_add-pins invariant-loop decreases-loop
 add-pins c =
-    let l = c.before.before.loop in
-    let start = c.before.before.before in
-    let f = at start.args.beside.now in
-    omega (arith, start.requires, l.invariant.0, sum_more f l.m, sum_grows f (l.m + 1) largest_net (omega arith))
+    let l = c.loop-m in
+    let f = at c.args.beside.now in
+    omega (arith, c.requires, l.invariant.0, sum_more f l.m, sum_grows f (l.m + 1) largest_net (omega arith))
 
-loop-again : tie.Need-loop-preserved invariant-loop decreases-loop
+loop-again : tie.Need-loop-m-preserved invariant-loop decreases-loop
 loop-again c =
-    let l = c.before.before.before.before.before.before.before.before.loop in
-    let a = c.before.before.before.before.before.before.before.before.before.args in
+    let l = c.loop-m in
+    let a = c.args in
     let t = other_from a.first.now a.last.now a.near.now a.far.now a.beside.now a.past a.c in (
       omega (arith, l.invariant.0, sum_more (at a.beside.now) l.m),
-      omega (arith, l.invariant.1, sum_more (λ m. bit (t m)) l.m, c.other.ensures.0),
-      omega (arith, l.invariant.2, c.other.ensures.1),
+      omega (arith, l.invariant.1, sum_more (λ m. bit (t m)) l.m, c.other-others.ensures.0),
+      omega (arith, l.invariant.2, c.other-others.ensures.1),
       omega arith,
     )
 
-add-result : tie.Need-overflow-add-result invariant-loop decreases-loop
+add-result : tie.Need-overflow_add-result invariant-loop decreases-loop
 add-result c =
-    let l = c.before.before.before.loop in
-    let start = c.before.before.before.before in
+    let l = c.loop-m in
     omega (
       arith,
-      c.before.wide.ensures,
-      c.wide2.ensures,
-      start.requires,
+      c.wide.ensures,
+      c.wide-2.ensures,
+      c.requires,
       l.invariant.0,
       l.invariant.2,
-      sum_grows (at start.args.beside.now) l.m largest_net (omega arith),
+      sum_grows (at c.args.beside.now) l.m largest_net (omega arith),
     )
 
 returns : tie.Need-returns invariant-loop decreases-loop
 returns c =
-    let l = c.before.before.before.loop in
-    let start = c.before.before.before.before in
-    let a = start.args in
+    let l = c.loop-m in
+    let a = c.args in
     let e : l.m ≡ largest_net = omega arith in
     let t = other_from a.first.now a.last.now a.near.now a.far.now a.beside.now a.past a.c in
-    let pins = c.before.wide.ensures ∙ l.invariant.0 ∙ ap (sum (at a.beside.now)) e in
-    let others = c.wide2.ensures ∙ l.invariant.1 ∙ ap (count t) e in (
+    let pins = c.wide.ensures ∙ l.invariant.0 ∙ ap (sum (at a.beside.now)) e in
+    let others = c.wide-2.ensures ∙ l.invariant.1 ∙ ap (count t) e in (
       omega (
         arith,
         pins,
         others,
         two_sums a.first.now a.last.now a.near.now a.far.now a.beside.now a.past a.c,
       ),
-      omega (arith, pins, start.requires, c.wide2.ensures, l.invariant.2),
+      omega (arith, pins, c.requires, c.wide-2.ensures, l.invariant.2),
     )
 
 pub need_at_spec : {M : Type 1} → statement M

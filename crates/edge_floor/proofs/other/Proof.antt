@@ -6,10 +6,10 @@ use Rattle.edge_floor.proofs.other.Tie as tie
 
 returns : tie.Need-returns
 returns c =
-    let a = c.before.before.before.before.before.args in
+    let a = c.args in
     other_is a.first a.last a.near a.far a.beside a.past a.c
-    c.before.before.before.before.low_of.ensures c.before.before.before.high_of.ensures c.before.before.is_over.ensures
-    c.before.both.ensures c.choose.ensures
+    c.low_of-low.ensures c.high_of-high.ensures c.is_over.ensures
+    c.both.ensures c.choose.ensures
 
 pub other_spec : {M : Type 1} → statement M
 other_spec =

@@ -11,85 +11,72 @@ use Rattle.figures.proofs.at_ends.Statement.{statement}
 use Rattle.figures.proofs.at_ends.Tie as tie
 
 -- the two pins of the first column, and of the last
-first-pins : (c : tie.After-wide3) → let d = c.before.before.before.before.before.args in
-    TwoPins d.a.now d.b.now 0 c.before.before.wide2.result c.wide3.result
-first-pins c = let given = c.before.before.before.before.before.requires.0 in
-    two_pins given.1 given.2 c.before.before.wide2.ensures c.wide3.ensures
+first-pins : (c : tie.After-wide-3) → let d = c.args in
+    TwoPins d.a.now d.b.now 0 c.wide-2.result c.wide-3.result
+first-pins c = let given = c.requires.0 in
+    two_pins given.1 given.2 c.wide-2.ensures c.wide-3.ensures
 
-last-pins : (c : tie.After-wide6) →
-    let d = c.before.before.before.before.before.before.before.before.before.before.before.args in
-    TwoPins d.a.now d.b.now (d.n - 1) c.before.before.wide5.result c.wide6.result
-last-pins c = let given = c.before.before.before.before.before.before.before.before.before.before.before.requires.0 in
-    two_pins given.1 given.2 c.before.before.wide5.ensures c.wide6.ensures
+last-pins : (c : tie.After-wide-6) →
+    let d = c.args in
+    TwoPins d.a.now d.b.now (d.n - 1) c.wide-5.result c.wide-6.result
+last-pins c = let given = c.requires.0 in
+    two_pins given.1 given.2 c.wide-5.ensures c.wide-6.ensures
 
-now-at-requires : tie.Need-now-at-requires
+now-at-requires : tie.Need-now_at-requires
 now-at-requires c κs = (first-pins c).small
 
-add-starts : tie.Need-overflow-add-starts
+add-starts : tie.Need-overflow_add-starts
 add-starts c =
-    let n = c.before.before.before.before.before in
-    let d = n.before in
     omega (
       arith,
-      n.wide.ensures,
-      ends_few d.requires.1,
+      c.wide.ensures,
+      ends_few c.requires.1,
       c.now_at.ensures,
-      now_few d.args.from.now c.before.before.before.wide2.result c.before.wide3.result 1,
+      now_few c.args.from.now c.wide-2.result c.wide-3.result 1,
     )
 
-now-at-requires-2 : tie.Need-now-at-requires-2
+now-at-requires-2 : tie.Need-now_at-requires-2
 now-at-requires-2 c κs = (last-pins c).small
 
-add-stops : tie.Need-overflow-add-stops
+add-stops : tie.Need-overflow_add-stops
 add-stops c =
-    let f = c.before.before.before.before.before in
-    let d = f.before.before.before.before.before.before.before in
     omega (
       arith,
-      f.wide4.ensures,
-      ends_few d.requires.1,
-      c.now_at2.ensures,
-      now_few d.args.to.now c.before.before.before.wide5.result c.before.wide6.result d.args.n,
+      c.wide-4.ensures,
+      ends_few c.requires.1,
+      c.now_at-2.ensures,
+      now_few c.args.to.now c.wide-5.result c.wide-6.result c.args.n,
     )
 
-sub_wide : tie.Need-overflow-sub-wide
-sub_wide c = let d = c.before.before.before.before.before.before.before.before.before.before.before.before.before in
-    coming_few (omega (arith, d.requires.0.0)) d.requires.0.3 d.requires.1
+sub_wide : tie.Need-overflow_sub-near
+sub_wide c =
+    coming_few (omega (arith, c.requires.0.0)) c.requires.0.3 c.requires.1
 
-add-result : tie.Need-overflow-add-result
+add-result : tie.Need-overflow_add-result
 add-result c =
-    let stop = c.before.before in
-    let f = stop.before.before.before.before.before in
-    let d = f.before.before.before.before.before.before.before in
     omega (
       arith,
-      f.wide4.ensures,
-      c.wide7.ensures,
-      ends_few d.requires.1,
-      stop.now_at2.ensures,
-      now_few d.args.to.now stop.before.before.before.wide5.result stop.before.wide6.result d.args.n,
+      c.wide-4.ensures,
+      c.wide-then-n-eq1.ensures,
+      ends_few c.requires.1,
+      c.now_at-2.ensures,
+      now_few c.args.to.now c.wide-5.result c.wide-6.result c.args.n,
     )
 
-returns : tie.Need-returns
+returns : tie.Need-returns-then-n-eq1
 returns c =
-    let stop = c.before.before in
-    let start = stop.before.before.before.before.before.before in
-    let d = start.before.before.before.before.before.before in
-    ap₂ (λ (u v : ℕ). u + stop.now_at2.result + v) stop.before.before.before.before.before.wide4.ensures c.wide7.ensures
-    ∙ outer_one (omega (arith, d.requires.0.0)) d.requires.0.3 d.requires.1 (omega (arith, d.requires.0.0)) (first-pins start.before)
-    (last-pins stop.before) start.now_at.ensures stop.now_at2.ensures c.before.if1.true
+    ap₂ (λ (u v : ℕ). u + c.now_at-2.result + v) c.wide-4.ensures c.wide-then-n-eq1.ensures
+    ∙ outer_one (omega (arith, c.requires.0.0)) c.requires.0.3 c.requires.1 (omega (arith, c.requires.0.0)) (first-pins c.before.before.before.before.before.before.before.before.before)
+    (last-pins c.before.before.before) c.now_at.ensures c.now_at-2.ensures c.if-n-eq1.true
 
-returns-2 : tie.Need-returns-2
+returns-2 : tie.Need-returns
 returns-2 c =
-    let stop = c.before.before in
-    let start = stop.before.before.before.before.before.before in
-    let d = start.before.before.before.before.before.before in
     c.larger.ensures
-    ∙ ap₂ (λ (u v : ℕ). max (u + start.now_at.result) (v + stop.now_at2.result))
-    start.before.before.before.before.before.wide.ensures stop.before.before.before.before.before.wide4.ensures
-    ∙ outer_two (omega (arith, d.requires.0.0)) d.requires.0.3 d.requires.1 (omega (arith, d.requires.0.0)) (first-pins start.before)
-    (last-pins stop.before) start.now_at.ensures stop.now_at2.ensures
-    (omega (arith, d.requires.0.0, c.before.if1.false))
+    ∙ ap₂ (λ (u v : ℕ). max (u + c.now_at.result) (v + c.now_at-2.result))
+    c.wide.ensures c.wide-4.ensures
+    ∙ outer_two (omega (arith, c.requires.0.0)) c.requires.0.3 c.requires.1 (omega (arith, c.requires.0.0)) (first-pins c.before.before.before.before.before.before.before.before.before)
+    (last-pins c.before.before.before) c.now_at.ensures c.now_at-2.ensures
+    (omega (arith, c.requires.0.0, c.if-n-eq1.false))
 
 pub at_ends_spec : {M : Type 1} → statement M
 at_ends_spec =

@@ -9,31 +9,28 @@ use Rattle.figures.proofs.Entries.{entries_none, entries_more, begin_is}
 use Rattle.figures.proofs.begins.Statement.{statement}
 use Rattle.figures.proofs.begins.Tie as tie
 
-abbrev invariant-loop : tie.invariant-loop
+abbrev invariant-loop : tie.invariant-loop-m
 invariant-loop first last near far past from₀ m₀ from m =
     (m ≤ largest_net) × PerNet nowhere (λ v. begin_of (at first v) (at last v) (at near v) (at far v) past) m from
 
-abbrev decreases-loop : tie.decreases-loop
+abbrev decreases-loop : tie.decreases-loop-m
 decreases-loop first last near far past from₀ m₀ from m = largest_net - m
 
-loop-holds : tie.Need-loop-init invariant-loop decreases-loop
+loop-holds : tie.Need-loop-m-init invariant-loop decreases-loop
 loop-holds c = (omega arith, entries_none (search rules) refl)
 
-loop-again : tie.Need-loop-preserved invariant-loop decreases-loop
+loop-again : tie.Need-loop-m-preserved invariant-loop decreases-loop
 loop-again c =
-    let b = c.before.before.before.before.before.before in
-    let i = b.before.before in
-    let l = i.before.before.before.before in
-    let d = l.before.args in
-    let m = l.loop.m + 1 in (
+    let d = c.args in
+    let m = c.loop-m.m + 1 in (
       omega arith,
       entries_more (omega arith)
           (begin_is (at d.first.now m) (at d.last.now m) (at d.near.now m) (at d.far.now m) d.past
-          i.choose.ensures b.choose2.ensures c.before.stays.ensures c.choose3.ensures) l.loop.invariant.1,
+          c.choose-inner.ensures c.choose-low.ensures c.stays.ensures c.choose.ensures) c.loop-m.invariant.1,
     )
 
 returns : tie.Need-returns invariant-loop decreases-loop
-returns c = let l = c.before.loop in let e : l.m ≡ largest_net = omega arith in rw e at l.invariant.1
+returns c = let l = c.loop-m in let e : l.m ≡ largest_net = omega arith in rw e at l.invariant.1
 
 pub begins_spec : {M : Type 1} → statement M
 begins_spec =

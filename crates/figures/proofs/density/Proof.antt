@@ -9,41 +9,32 @@ use Rattle.figures.proofs.density.Statement.{statement}
 use Rattle.figures.proofs.density.Tie as tie
 
 -- where the nets begin and end
-listed : (c : tie.After-end-counts) → let e = c.before.before.before in let d = e.before.before.args in
-    EndsAt d.a.now d.b.now d.n e.before.begins.result e.ends.result
+listed : (c : tie.After-end_counts-e) → let d = c.args in
+    EndsAt d.a.now d.b.now d.n c.begins-from.result c.ends-to.result
 listed c =
-    let e = c.before.before.before in
-    let d = e.before.before in
-    ends d.args.near.now d.args.far.now d.requires e.before.begins.ensures e.ends.ensures
+    ends c.args.near.now c.args.far.now c.requires c.begins-from.ensures c.ends-to.ensures
 
-peak-requires : tie.Need-peak-requires
+peak-requires : tie.Need-peak-most-requires
 peak-requires c κs =
-    let k = c.before.before in
-    let s = k.before.before.before.before.before.requires in
-    ((s.fits.1, s.on_a, s.on_b, listed k), k.end_counts.ensures.comes)
+    let s = c.requires in
+    ((s.fits.1, s.on_a, s.on_b, listed c.before.before), c.end_counts-e.ensures.comes)
 
-at-ends-requires : tie.Need-at-ends-requires
+at-ends-requires : tie.Need-at_ends-requires
 at-ends-requires c κs =
-    let k = c.before.before.before.before.before.before in
-    let s = k.before.before.before.before.before.requires in
-    ((s.fits, s.on_a, s.on_b, listed k), k.end_counts.ensures)
+    let s = c.requires in
+    ((s.fits, s.on_a, s.on_b, listed c.before.before.before.before.before.before), c.end_counts-e.ensures)
 
-returns : tie.Need-returns
+returns : tie.Need-returns-then-boxed
 returns c =
-    let k = c.before.before.before.before.before.before.before.before in
-    let e = k.before.before.before in
-    let d = e.before.before in
-    rw c.before.before.before.before.if1.true
-    (crossed_box d.args.near.now d.args.far.now d.requires e.before.begins.ensures e.ends.ensures
-    (c.larger.ensures ∙ ap₂ max c.before.before.before.before.before.peak.ensures c.before.at_ends.ensures
-    ∙ outer e.before.begins.result e.ends.result d.args.n d.requires.fits.0))
+    rw c.if-boxed.true
+    (crossed_box c.args.near.now c.args.far.now c.requires c.begins-from.ensures c.ends-to.ensures
+    (c.larger.ensures ∙ ap₂ max c.peak-most.ensures c.at_ends.ensures
+    ∙ outer c.begins-from.result c.ends-to.result c.args.n c.requires.fits.0))
 
-returns-2 : tie.Need-returns-2
+returns-2 : tie.Need-returns
 returns-2 c =
-    let e = c.before.before.before.before.before.before.before in
-    let d = e.before.before in
-    rw c.if1.false (crossed_plain d.args.near.now d.args.far.now d.requires e.before.begins.ensures e.ends.ensures
-    c.before.peak.ensures)
+    rw c.if-boxed.false (crossed_plain c.args.near.now c.args.far.now c.requires c.begins-from.ensures c.ends-to.ensures
+    c.peak-most.ensures)
 
 pub density_spec : {M : Type 1} → statement M
 density_spec =

@@ -9,30 +9,28 @@ use Rattle.figures.proofs.Entries.{entries_none, entries_more, end_is}
 use Rattle.figures.proofs.ends.Statement.{statement}
 use Rattle.figures.proofs.ends.Tie as tie
 
-abbrev invariant-loop : tie.invariant-loop
+abbrev invariant-loop : tie.invariant-loop-m
 invariant-loop first last near far past to₀ m₀ to m =
     (m ≤ largest_net) × PerNet nowhere (λ v. end_of (at first v) (at last v) (at near v) (at far v) past) m to
 
-abbrev decreases-loop : tie.decreases-loop
+abbrev decreases-loop : tie.decreases-loop-m
 decreases-loop first last near far past to₀ m₀ to m = largest_net - m
 
-loop-holds : tie.Need-loop-init invariant-loop decreases-loop
+loop-holds : tie.Need-loop-m-init invariant-loop decreases-loop
 loop-holds c = (omega arith, entries_none (search rules) refl)
 
-loop-again : tie.Need-loop-preserved invariant-loop decreases-loop
+loop-again : tie.Need-loop-m-preserved invariant-loop decreases-loop
 loop-again c =
-    let h = c.before.before.before.before.before.before in
-    let l = h.before.before.before.before in
-    let d = l.before.args in
-    let m = l.loop.m + 1 in (
+    let d = c.args in
+    let m = c.loop-m.m + 1 in (
       omega arith,
       entries_more (omega arith)
           (end_is (at d.first.now m) (at d.last.now m) (at d.near.now m) (at d.far.now m) d.past
-          h.high_of.ensures c.before.stays.ensures c.choose.ensures) l.loop.invariant.1,
+          c.high_of-high.ensures c.stays.ensures c.choose.ensures) c.loop-m.invariant.1,
     )
 
 returns : tie.Need-returns invariant-loop decreases-loop
-returns c = let l = c.before.loop in let e : l.m ≡ largest_net = omega arith in rw e at l.invariant.1
+returns c = let l = c.loop-m in let e : l.m ≡ largest_net = omega arith in rw e at l.invariant.1
 
 pub ends_spec : {M : Type 1} → statement M
 ends_spec =

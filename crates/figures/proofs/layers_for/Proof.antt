@@ -8,8 +8,8 @@ use Rattle.figures.proofs.layers_for.Tie as tie
 
 returns : tie.Need-returns
 returns c =
-    let a = c.before.before.args in
-    c.by_kind.ensures ∙ ap (λ (q : ℕ). by_kind a.kind 0 (2 * a.byte2) (2 * a.byte2 + 1) (2 * q + 4) 2) c.before.quotient.ensures.0
+    let a = c.args in
+    c.by_kind.ensures ∙ ap (λ (q : ℕ). by_kind a.kind 0 (2 * a.byte2) (2 * a.byte2 + 1) (2 * q + 4) 2) c.quotient-q.ensures.0
 
 pub layers_for_spec : {M : Type 1} → statement M
 layers_for_spec =

@@ -7,59 +7,54 @@ use Rattle.figures.proofs.Sweep.{Swept, TwoPins, two_pins, swept_none, swept_in,
 use Rattle.figures.proofs.peak.Statement.{statement}
 use Rattle.figures.proofs.peak.Tie as tie
 
-abbrev invariant-loop : tie.invariant-loop
+abbrev invariant-loop : tie.invariant-loop-c
 invariant-loop a b from to coming n now₀ best₀ c₀ now best c = (c ≤ n) × Swept from to c now best
 
-abbrev decreases-loop : tie.decreases-loop
+abbrev decreases-loop : tie.decreases-loop-c
 decreases-loop a b from to coming n now₀ best₀ c₀ now best c = n - c
 
-loop-holds : tie.Need-loop-init invariant-loop decreases-loop
-loop-holds c = (omega arith, swept_none (omega (arith, c.before.requires.0.0)) c.before.requires.0.3 (c.wide.ensures ∙ c.before.requires.1))
+loop-holds : tie.Need-loop-c-init invariant-loop decreases-loop
+loop-holds c = (omega arith, swept_none (omega (arith, c.requires.0.0)) c.requires.0.3 (c.wide-now.ensures ∙ c.requires.1))
 
 -- the column's two pins
-pins : (c : tie.After-wide3 invariant-loop decreases-loop) → let l = c.before.before.before.before.before in
-    let a = l.before.before.args in
-    TwoPins a.a.now a.b.now l.loop.c c.before.before.wide2.result c.wide3.result
-pins c = let given = c.before.before.before.before.before.before.before.requires.0 in
-    two_pins given.1 given.2 c.before.before.wide2.ensures c.wide3.ensures
+pins : (c : tie.After-wide-k invariant-loop decreases-loop) →
+    let a = c.args in
+    TwoPins a.a.now a.b.now c.loop-c.c c.wide-m.result c.wide-k.result
+pins c = let given = c.requires.0 in
+    two_pins given.1 given.2 c.wide-m.ensures c.wide-k.ensures
 
-now-at-requires : tie.Need-now-at-requires invariant-loop decreases-loop
+now-at-requires : tie.Need-now_at-now-requires invariant-loop decreases-loop
 now-at-requires c κs = (pins c).small
 
-add-now : tie.Need-overflow-add-now invariant-loop decreases-loop
+add-now : tie.Need-overflow_add-now invariant-loop decreases-loop
 add-now c =
-    let l = c.before.before.before.before.before.before in
     omega (
       arith,
-      swept_in (omega (arith, l.before.before.requires.0.0)) l.before.before.requires.0.3
-          l.loop.invariant.1 c.before.before.before.before.before.loop-test.true
-          (pins c.before) c.now_at.ensures,
+      swept_in (omega (arith, c.requires.0.0)) c.requires.0.3
+          c.loop-c.invariant.1 c.loop-c-test.true
+          (pins c.before) c.now_at-now.ensures,
     )
 
-now-at-requires-2 : tie.Need-now-at-requires-2 invariant-loop decreases-loop
+now-at-requires-2 : tie.Need-now_at-now-requires-in-loop-c invariant-loop decreases-loop
 now-at-requires-2 c κs = (pins c.before.before).small
 
-sub-now : tie.Need-overflow-sub-now invariant-loop decreases-loop
+sub-now : tie.Need-overflow_sub-now invariant-loop decreases-loop
 sub-now c =
-    let d = c.before.before in
-    let l = d.before.before.before.before.before.before in
-    swept_out (omega (arith, l.before.before.requires.0.0)) l.before.before.requires.0.3
-    l.loop.invariant.1 d.before.before.before.before.before.loop-test.true
-    (pins d.before) d.now_at.ensures c.now_at2.ensures
+    swept_out (omega (arith, c.requires.0.0)) c.requires.0.3
+    c.loop-c.invariant.1 c.loop-c-test.true
+    (pins c.before.before.before) c.now_at-now.ensures c.now_at-now-in-loop-c.ensures
 
-loop-again : tie.Need-loop-preserved invariant-loop decreases-loop
+loop-again : tie.Need-loop-c-preserved invariant-loop decreases-loop
 loop-again c =
-    let d = c.before.before in
-    let l = d.before.before.before.before.before.before in
     let out = sub-now c in (
       omega arith,
-      swept_more (omega (arith, l.before.before.requires.0.0)) l.before.before.requires.0.3
-          l.loop.invariant.1 d.before.before.before.before.before.loop-test.true
-          (pins d.before) d.now_at.ensures c.now_at2.ensures _ (omega arith) c.before.larger.ensures,
+      swept_more (omega (arith, c.requires.0.0)) c.requires.0.3
+          c.loop-c.invariant.1 c.loop-c-test.true
+          (pins c.before.before.before) c.now_at-now.ensures c.now_at-now-in-loop-c.ensures _ (omega arith) c.larger-best.ensures,
     )
 
 returns : tie.Need-returns invariant-loop decreases-loop
-returns c = let l = c.before.loop in let e : l.c ≡ c.before.before.before.args.n = omega arith in rw e at l.invariant.1.largest
+returns c = let l = c.loop-c in let e : l.c ≡ c.args.n = omega arith in rw e at l.invariant.1.largest
 
 pub peak_spec : {M : Type 1} → statement M
 peak_spec =

@@ -6,8 +6,8 @@ use Rattle.figures.proofs.stays.Tie as tie
 
 returns : tie.Need-returns
 returns c =
-    let d = c.before.before.args in
-    stays_is d.first d.last d.near d.far c.before.larger_byte.ensures c.both.ensures
+    let d = c.args in
+    stays_is d.first d.last d.near d.far c.larger_byte.ensures c.both.ensures
 
 pub stays_spec : {M : Type 1} → statement M
 stays_spec = tie.close (tie.spec (λ c κs. search rules) (λ c κs. search rules) returns)

@@ -8,7 +8,7 @@ use Rattle.figures.proofs.tracks_for.Tie as tie
 
 returns : tie.Need-returns
 unfolding tracks_for
-returns c = c.larger.ensures ∙ ap (max 1) c.before.rounded_up.ensures.0
+returns c = c.larger.ensures ∙ ap (max 1) c.rounded_up.ensures.0
 
 pub tracks_for_spec : {M : Type 1} → statement M
 tracks_for_spec = tie.close (tie.spec (λ c κs. search rules) (λ c κs. search rules) returns)

@@ -6,8 +6,7 @@ use Rattle.flat.proofs.first_bytes.Tie as tie
 
 returns : tie.Need-returns
 returns c =
-    let p1 = c.before.before in
-    says_adds (says_adds (says_adds p1.before.blank.ensures p1.put.ensures) c.before.put2.ensures) c.put3.ensures
+    says_adds (says_adds (says_adds c.blank.ensures c.put.ensures) c.put-2.ensures) c.put-3.ensures
 
 pub first_bytes_spec : {M : Type 1} → statement M
 first_bytes_spec = tie.close (tie.spec (λ c κs. search rules) (λ c κs. search rules) (λ c κs. search rules) (λ c κs. search rules) returns)

@@ -10,31 +10,24 @@ use Rattle.flat.proofs.Laws.{says_flat}
 use Rattle.flat.proofs.flat_of.Statement.{statement}
 use Rattle.flat.proofs.flat_of.Tie as tie
 
-with-all-places-requires : tie.Need-with-all-places-requires
+with-all-places-requires : tie.Need-with_all_places-requires
 with-all-places-requires c κs =
-    let c5 = c.before.before.before.before.before in
-    let c7 = c5.before.before in
-    let c10 = c7.before.before.before in
-    let c12 = c10.before.before in
-    let kind = c12.args.t1.kind in
-    let n = c10.column_count.result in
-    let byte2 = c7.wide.result in
-    let long : n ≤ longest_side = omega (arith, c10.column_count.ensures, c12.requires.columns) in
-    let broad : byte2 ≤ longest_side = omega (arith, c7.wide.ensures, byte2_in c12.requires) in (
-      omega (arith, c7.before.before.north_places.ensures, places_le kind n 0 north long (omega arith)),
-      omega (arith, c7.before.south_places.ensures, places_le kind n 0 south long (omega arith)),
-      omega (arith, c5.before.end_places.ensures, places_le kind 0 byte2 west (omega arith) broad),
-      c5.first_bytes.ensures.size,
+    let kind = c.args.q.kind in
+    let n = c.column_count-n.result in
+    let byte2 = c.wide.result in
+    let long : n ≤ longest_side = omega (arith, c.column_count-n.ensures, c.requires.columns) in
+    let broad : byte2 ≤ longest_side = omega (arith, c.wide.ensures, byte2_in c.requires) in (
+      omega (arith, c.north_places-norths.ensures, places_le kind n 0 north long (omega arith)),
+      omega (arith, c.south_places-souths.ensures, places_le kind n 0 south long (omega arith)),
+      omega (arith, c.end_places-ends.ensures, places_le kind 0 byte2 west (omega arith) broad),
+      c.first_bytes-out.ensures.size,
     )
 
 returns : tie.Need-returns
 returns c =
-    let c6 = c.before.before.before.before.before.before in
-    let c8 = c6.before.before in
-    let c11 = c8.before.before.before in
-    let q = c11.before.before.args.t1 in (
-      says_flat q c11.column_count.ensures c8.wide.ensures c8.before.before.north_places.ensures
-          c8.before.south_places.ensures c6.before.end_places.ensures c6.first_bytes.ensures c.with_all_places.ensures.0,
+    let q = c.args.q in (
+      says_flat q c.column_count-n.ensures c.wide.ensures c.north_places-norths.ensures
+          c.south_places-souths.ensures c.end_places-ends.ensures c.first_bytes-out.ensures c.with_all_places.ensures.0,
       c.with_all_places.ensures.1,
     )
 

@@ -8,27 +8,23 @@ use Rattle.flat_law.proofs.Promise.{ticket_faithful, flat_faithful, reads_good, 
 use Rattle.flat.proofs.flatten.Statement.{statement}
 use Rattle.flat.proofs.flatten.Tie as tie
 
-returns : tie.Need-returns
+returns : tie.Need-returns-then-refusal-ne0
 returns c =
-    let c4 = c.before.before.before.before in
-    let a = c4.before.before.before.args in
+    let a = c.args in
     subst (λ (r : Written). Converts ticket_form flat_form a.ticket.now a.flat.now a.flat.now r)
     (sym c.not_written.ensures)
-    (convert_refused a.ticket.now a.flat.now c4.parse.ensures c.before.if1.true)
+    (convert_refused a.ticket.now a.flat.now c.parse-whole.ensures c.if-refusal-ne0.true)
 
-write-flat-requires : tie.Need-write-flat-requires
+write-flat-requires : tie.Need-write_flat-requires
 write-flat-requires c κs =
-    let c5 = c.before.before.before.before.before in
-    reads_good ticket_faithful c5.before.before.before.args.ticket.now c5.parse.ensures c.before.before.if1.false
+    reads_good ticket_faithful c.args.ticket.now c.parse-whole.ensures c.if-refusal-ne0.false
 
-returns-2 : tie.Need-returns-2
+returns-2 : tie.Need-returns
 returns-2 c =
-    let c5 = c.before.before.before.before.before in
-    let c8 = c5.before.before.before in
-    let a = c8.before.before.before.args in
-    let known : Bytes a.ticket.now = record { small = λ i. (c8.before.before.shared-slice-known.given i).fits } in
-    convert_written a.ticket.now a.flat.now c8.parse.ensures ticket_faithful flat_faithful known c5.if1.false
-    c.before.before.write_flat.ensures
+    let a = c.args in
+    let known : Bytes a.ticket.now = record { small = λ i. (c.shared_slice_known-1.given i).fits } in
+    convert_written a.ticket.now a.flat.now c.parse-whole.ensures ticket_faithful flat_faithful known c.if-refusal-ne0.false
+    c.write_flat.ensures
 
 pub flatten_spec : {M : Type 1} → statement M
 flatten_spec =

@@ -9,29 +9,25 @@ use Rattle.flat_law.proofs.Promise.{ticket_faithful, flat_faithful, reads_good, 
 use Rattle.flat.proofs.unflatten.Statement.{statement}
 use Rattle.flat.proofs.unflatten.Tie as tie
 
-returns : tie.Need-returns
+returns : tie.Need-returns-then-refusal-ne0
 returns c =
-    let c4 = c.before.before.before.before in
-    let a = c4.before.before.before.args in
+    let a = c.args in
     subst (λ (r : Written). Converts flat_form ticket_form a.flat.now a.ticket.now a.ticket.now r)
     (sym c.not_written.ensures)
-    (convert_refused a.flat.now a.ticket.now c4.parse_flat.ensures c.before.if1.true)
+    (convert_refused a.flat.now a.ticket.now c.parse_flat-whole.ensures c.if-refusal-ne0.true)
 
-write-ticket-requires : tie.Need-write-ticket-requires
+write-ticket-requires : tie.Need-write_ticket-requires
 write-ticket-requires c κs =
-    let c5 = c.before.before.before.before.before in
     let good =
-    reads_good flat_faithful c5.before.before.before.args.flat.now c5.parse_flat.ensures c.before.before.if1.false in
+    reads_good flat_faithful c.args.flat.now c.parse_flat-whole.ensures c.if-refusal-ne0.false in
     (good.columns.1, (width_in good).1)
 
-returns-2 : tie.Need-returns-2
+returns-2 : tie.Need-returns
 returns-2 c =
-    let c5 = c.before.before.before.before.before in
-    let c8 = c5.before.before.before in
-    let a = c8.before.before.before.args in
-    let known : Bytes a.flat.now = record { small = λ i. (c8.before.before.shared-slice-known.given i).fits } in
-    convert_written a.flat.now a.ticket.now c8.parse_flat.ensures flat_faithful ticket_faithful known c5.if1.false
-    c.before.before.write_ticket.ensures
+    let a = c.args in
+    let known : Bytes a.flat.now = record { small = λ i. (c.shared_slice_known-1.given i).fits } in
+    convert_written a.flat.now a.ticket.now c.parse_flat-whole.ensures flat_faithful ticket_faithful known c.if-refusal-ne0.false
+    c.write_ticket.ensures
 
 pub unflatten_spec : {M : Type 1} → statement M
 unflatten_spec =

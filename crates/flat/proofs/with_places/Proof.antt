@@ -13,24 +13,24 @@ use Rattle.flat.proofs.Laws.{places_more}
 use Rattle.flat.proofs.with_places.Statement.{statement}
 use Rattle.flat.proofs.with_places.Tie as tie
 
-abbrev invariant-loop : tie.invariant-loop
+abbrev invariant-loop : tie.invariant-loop-i
 invariant-loop nets places bytes₀ used₀ i₀ bytes used i =
     (i ≤ places) × (used ≡ used₀ + i) × (length bytes ≡ most_output) × Adds (record { bytes = bytes₀; used = used₀ })
     (values_from (entry nets) 1 i) (record { bytes = bytes; used = used })
 
-abbrev decreases-loop : tie.decreases-loop
+abbrev decreases-loop : tie.decreases-loop-i
 decreases-loop nets places bytes₀ used₀ i₀ bytes used i = places - i
 
-loop-holds : tie.Need-loop-init invariant-loop decreases-loop
+loop-holds : tie.Need-loop-i-init invariant-loop decreases-loop
 loop-holds c = (omega arith, omega arith, search rules, adds_as (sym (values_none _ _)) (adds_none _))
 
-array-write-bytes : tie.Need-array-write-bytes invariant-loop decreases-loop
-array-write-bytes c = let l = c.before.before.loop in omega (arith, l.invariant.1, l.invariant.2)
+array-write-bytes : tie.Need-bounds-bytes-used invariant-loop decreases-loop
+array-write-bytes c = let l = c.loop-i in omega (arith, l.invariant.1, l.invariant.2)
 
-loop-again : tie.Need-loop-preserved invariant-loop decreases-loop
+loop-again : tie.Need-loop-i-preserved invariant-loop decreases-loop
 loop-again c =
-    let l = c.before.before.loop in
-    let nets = c.before.before.before.before.args.nets.now in (
+    let l = c.loop-i in
+    let nets = c.args.nets.now in (
       omega arith,
       omega (arith, l.invariant.1),
       simp length-set l.invariant.2,
@@ -40,8 +40,8 @@ loop-again c =
 
 returns : tie.Need-returns invariant-loop decreases-loop
 returns c =
-    let l = c.before.loop in
-    let e : l.i ≡ c.before.before.before.args.places = omega arith in
+    let l = c.loop-i in
+    let e : l.i ≡ c.args.places = omega arith in
     rw e at l.invariant.3
 
 pub with_places_spec : {M : Type 1} → statement M

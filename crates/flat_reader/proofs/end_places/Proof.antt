@@ -7,7 +7,7 @@ use Rattle.flat_reader.proofs.end_places.Statement.{statement}
 use Rattle.flat_reader.proofs.end_places.Tie as tie
 
 returns : tie.Need-returns
-returns c = c.by_kind.ensures ∙ on_side c.before.args.kind c.before.args.byte2 false false true false
+returns c = c.by_kind.ensures ∙ on_side c.args.kind c.args.byte2 false false true false
 
 pub end_places_spec : {M : Type 1} → statement M
 end_places_spec = tie.close (tie.spec (λ c κs. search rules) returns)

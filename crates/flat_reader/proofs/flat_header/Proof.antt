@@ -7,15 +7,15 @@ use Rattle.flat_reader.specs.Flat.{flat_header}
 use Rattle.flat_reader.proofs.flat_header.Statement.{statement}
 use Rattle.flat_reader.proofs.flat_header.Tie as tie
 
-returns : tie.Need-returns
+returns : tie.Need-returns-then-size-lt4
 unfolding flat_header
-returns c = simp (lt-leb _ _ c.before.if1.true) c.stop.ensures
+returns c = simp (lt-leb _ _ c.if-size-lt4.true) c.stop.ensures
 
-returns-2 : tie.Need-returns-2
+returns-2 : tie.Need-returns
 unfolding flat_header
 returns-2 c =
-    simp (le-leb _ _ c.before.before.before.before.before.if1.false)
-    (c.fields.ensures ∙ ap (fields_of _ _ _) c.before.go_on.ensures)
+    simp (le-leb _ _ c.if-size-lt4.false)
+    (c.fields.ensures ∙ ap (fields_of _ _ _) c.go_on.ensures)
 
 pub flat_header_spec : {M : Type 1} → statement M
 flat_header_spec =

@@ -4,39 +4,27 @@ use Rattle.ticket.proofs.Counted.{spans_read, spans_ask, judged_refused, judged_
 use Rattle.flat_reader.proofs.flat_judged.Statement.{statement}
 use Rattle.flat_reader.proofs.flat_judged.Tie as tie
 
-spans-of-requires : tie.Need-spans-of-requires
+spans-of-requires : tie.Need-spans_of-spans-requires
 spans-of-requires c κs =
-    let c5 = c.before.before.before.before.before in
-    let a = c5.before.before.before.before.before in
-    spans_ask a.args.flat.now a.args.t2 a.requires.1 c5.by_kind.ensures
+    spans_ask c.args.flat.now c.args.pins c.requires.1 c.by_kind-w.ensures
 
-returns : tie.Need-returns
+returns : tie.Need-returns-then-last-ne0
 returns c =
-    let c4 = c.before.before.before.before in
-    let c10 = c4.before.before.before.before.before.before in
-    let c16 = c10.before.before.before.before.before.before in
-    let a = c16.before.before.before.before.before in
-    let s = a.args.flat.now in
-    let is = spans_read s c16.by_kind.ensures c10.spans_of.ensures.0 c10.spans_of.ensures.1 in
-    judged_refused s a.args.t2 a.requires.1 c10.spans_of.result is c4.tally.ensures.0 c.before.if1.true
+    let s = c.args.flat.now in
+    let is = spans_read s c.by_kind-w.ensures c.spans_of-spans.ensures.0 c.spans_of-spans.ensures.1 in
+    judged_refused s c.args.pins c.requires.1 c.spans_of-spans.result is c.tally-tally.ensures.0 c.if-last-ne0.true
     c.refused.ensures.0
 
 accepted-requires : tie.Need-accepted-requires
 accepted-requires c κs =
-    let c9 = c.before.before.before.before.before.before.before.before.before in
-    let c15 = c9.before.before.before.before.before.before in
-    c15.before.before.before.before.before.requires.0
+    c.requires.0
 
-returns-2 : tie.Need-returns-2
+returns-2 : tie.Need-returns
 returns-2 c =
-    let c4 = c.before.before.before.before in
-    let c10 = c4.before.before.before.before.before.before in
-    let c16 = c10.before.before.before.before.before.before in
-    let a = c16.before.before.before.before.before in
-    let s = a.args.flat.now in
-    let is = spans_read s c16.by_kind.ensures c10.spans_of.ensures.0 c10.spans_of.ensures.1 in
-    judged_accepted s a.args.t2 a.requires.1 c10.spans_of.result is c4.tally.ensures.0 c.before.if1.false
-    c4.tally.ensures.1 c.accepted.ensures.0
+    let s = c.args.flat.now in
+    let is = spans_read s c.by_kind-w.ensures c.spans_of-spans.ensures.0 c.spans_of-spans.ensures.1 in
+    judged_accepted s c.args.pins c.requires.1 c.spans_of-spans.result is c.tally-tally.ensures.0 c.if-last-ne0.false
+    c.tally-tally.ensures.1 c.accepted.ensures.0
 
 pub flat_judged_spec : {M : Type 1} → statement M
 flat_judged_spec =

@@ -19,65 +19,63 @@ record Room (norths souths ends size : ℕ) : Type 0 where
   west : ends ≤ longest_side
   all : 3 + norths + souths + ends + ends ≤ size
 
-room : (c : tie.After-end-places) → let c7 = c.before.before.before.before.before.before.before in
-    Room c.before.before.before.north_places.result c.before.before.south_places.result c.end_places.result
-    (length c7.args.flat.now)
+room : (c : tie.After-end_places-ends) →
+    Room c.north_places-norths.result c.south_places-souths.result c.end_places-ends.result
+    (length c.args.flat.now)
 unfolding place_count
 room c =
-    let a = c.before.before.before.before.before.before.before in
-    let s = a.args.flat.now in
-    let le = few s a.requires.0 in
-    let n = c.before.before.before.north_places.ensures in
-    let u = c.before.before.south_places.ensures in
-    let e = c.end_places.ensures in
+    let s = c.args.flat.now in
+    let le = few s c.requires.0 in
+    let n = c.north_places-norths.ensures in
+    let u = c.south_places-souths.ensures in
+    let e = c.end_places-ends.ensures in
     record {
       north = omega (arith, n, le north);
       south = omega (arith, u, le south);
       west = omega (arith, e, le west);
-      all = omega (arith, n, u, e, a.requires.1);
+      all = omega (arith, n, u, e, c.requires.1);
     }
 
-net-list-requires : tie.Need-net-list-requires
+net-list-requires : tie.Need-net_list-north-requires
 net-list-requires c κs = let r = room c in (r.north, omega (arith, r.all))
 
-add-net-list : tie.Need-overflow-add-net-list
+add-net-list : tie.Need-overflow_add-norths
 add-net-list c = let r = room c.before in omega (arith, r.north)
 
-net-list-requires-2 : tie.Need-net-list-requires-2
+net-list-requires-2 : tie.Need-net_list-south-requires
 net-list-requires-2 c κs = let r = room c.before in (r.south, omega (arith, r.all))
 
-add-net-list-2 : tie.Need-overflow-add-net-list-2
+add-net-list-2 : tie.Need-overflow_add-norths-2
 add-net-list-2 c = let r = room c.before.before in omega (arith, r.north)
 
-add-net-list-3 : tie.Need-overflow-add-net-list-3
+add-net-list-3 : tie.Need-overflow_add-norths-3
 add-net-list-3 c = let r = room c.before.before in omega (arith, r.north, r.south)
 
-net-list-requires-3 : tie.Need-net-list-requires-3
+net-list-requires-3 : tie.Need-net_list-west-requires
 net-list-requires-3 c κs = let r = room c.before.before in (r.west, omega (arith, r.all))
 
-add-net-list-4 : tie.Need-overflow-add-net-list-4
+add-net-list-4 : tie.Need-overflow_add-norths-4
 add-net-list-4 c = let r = room c.before.before.before in omega (arith, r.north)
 
-add-net-list-5 : tie.Need-overflow-add-net-list-5
+add-net-list-5 : tie.Need-overflow_add-norths-5
 add-net-list-5 c = let r = room c.before.before.before in omega (arith, r.north, r.south)
 
-add-net-list-6 : tie.Need-overflow-add-net-list-6
+add-net-list-6 : tie.Need-overflow_add-norths-6
 add-net-list-6 c = let r = room c.before.before.before in omega (arith, r.north, r.south, r.west)
 
-net-list-requires-4 : tie.Need-net-list-requires-4
+net-list-requires-4 : tie.Need-net_list-east-requires
 net-list-requires-4 c κs = let r = room c.before.before.before in (r.west, omega (arith, r.all))
 
 returns : tie.Need-returns
 returns c =
-    let c4 = c.before.before.before.before in
-    let s = c4.before.before.before.before.before.before.before.args.flat.now in
-    let n = c4.before.before.before.north_places.ensures in
-    let u = c4.before.before.south_places.ensures in
-    let e = c4.end_places.ensures in
-    let north = c.before.before.before.net_list.ensures ∙ (λ i. net_list s 3 (n i)) in
-    let south = c.before.before.net_list2.ensures ∙ (λ i. net_list s (3 + n i) (u i)) in
-    let west = c.before.net_list3.ensures ∙ (λ i. net_list s (3 + n i + u i) (e i)) in
-    let east = c.net_list4.ensures ∙ (λ i. net_list s (3 + n i + u i + e i) (e i)) in
+    let s = c.args.flat.now in
+    let n = c.north_places-norths.ensures in
+    let u = c.south_places-souths.ensures in
+    let e = c.end_places-ends.ensures in
+    let north = c.net_list-north.ensures ∙ (λ i. net_list s 3 (n i)) in
+    let south = c.net_list-south.ensures ∙ (λ i. net_list s (3 + n i) (u i)) in
+    let west = c.net_list-west.ensures ∙ (λ i. net_list s (3 + n i + u i) (e i)) in
+    let east = c.net_list-east.ensures ∙ (λ i. net_list s (3 + n i + u i + e i) (e i)) in
     λ i. record { north = north i; south = south i; west = west i; east = east i }
 
 pub flat_pins_spec : {M : Type 1} → statement M

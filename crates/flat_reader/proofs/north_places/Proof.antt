@@ -7,7 +7,7 @@ use Rattle.flat_reader.proofs.north_places.Statement.{statement}
 use Rattle.flat_reader.proofs.north_places.Tie as tie
 
 returns : tie.Need-returns
-returns c = c.by_kind.ensures ∙ on_side c.before.args.kind c.before.args.n true true true true
+returns c = c.by_kind.ensures ∙ on_side c.args.kind c.args.n true true true true
 
 pub north_places_spec : {M : Type 1} → statement M
 north_places_spec = tie.close (tie.spec (λ c κs. search rules) returns)

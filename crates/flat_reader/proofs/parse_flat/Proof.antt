@@ -18,78 +18,71 @@ abbrev number : Cursor → ℕ
 number x = x.refusal.number
 
 -- the header was passed
-header : (c : tie.Else1) → (flat_header c.before.before.before.before.args.flat.now).refusal.number ≡ 0
-header c = ap number (sym c.before.before.flat_header.ensures) ∙ c.if1.false
+header : (c : tie.Else-head-ne0) → (flat_header c.args.flat.now).refusal.number ≡ 0
+header c = ap number (sym c.flat_header-head.ensures) ∙ c.if-head-ne0.false
 
 -- where reading stands after the places, refused or not
 end : (s : List ℕ) {k : ℕ} {r : Cursor} → k ≡ place_count s → r ≡ nets_of 0 s 3 k → r ≡ places_end s
 unfolding places_end
 end s k e = e ∙ ap (nets_of 0 s 3) k
 
-returns : tie.Need-returns
+returns : tie.Need-returns-then-head-ne0
 unfolding flat_ticket_of
-returns c = turned_down _ c.before.before.before.flat_header.ensures c.before.if1.true c.refused.ensures.0
+returns c = turned_down _ c.flat_header-head.ensures c.if-head-ne0.true c.refused.ensures.0
 
-place-count-requires : tie.Need-place-count-requires
+place-count-requires : tie.Need-place_count-requires
 place-count-requires c κs = (head_good _ (header c)).0
 
-net-bytes-requires : tie.Need-net-bytes-requires
+net-bytes-requires : tie.Need-net_bytes-end-requires
 net-bytes-requires c κs = omega (arith, (head_good _ (header c.before)).0.size)
 
-returns-2 : tie.Need-returns-2
+returns-2 : tie.Need-returns-then-end-ne0
 unfolding flat_ticket_of
 returns-2 c =
-    let c3 = c.before.before.before in
-    let c7 = c3.before.before.before.before in
-    turned_down _ (end _ c3.before.place_count.ensures c3.net_bytes.ensures.0) c.before.if2.true c.refused2.ensures.0
-    ∙ sym (going_on _ c7.flat_header.ensures c3.before.before.if1.false)
+    turned_down _ (end _ c.place_count.ensures c.net_bytes-end.ensures.0) c.if-end-ne0.true c.refused-then-end-ne0.ensures.0
+    ∙ sym (going_on _ c.flat_header-head.ensures c.if-head-ne0.false)
 
-returns-3 : tie.Need-returns-3
+returns-3 : tie.Need-returns-then-whole-ne0
 unfolding flat_ticket_of
 returns-3 c =
-    let c6 = c.before.before.before.before.before.before in
-    let c10 = c6.before.before.before.before in
-    let s = c10.before.before.args.flat.now in
-    let places = end s c6.before.place_count.ensures c6.net_bytes.ensures.0 in
-    turned_down _ (c.before.before.before.left_over.ensures ∙ ap (λ (x : Cursor). left_over s x.at) places) c.before.if3.true
-    c.refused3.ensures.0
-    ∙ sym (going_on _ c10.flat_header.ensures c6.before.before.if1.false
-    ∙ going_on _ places c.before.before.before.before.if2.false)
+    let s = c.args.flat.now in
+    let places = end s c.place_count.ensures c.net_bytes-end.ensures.0 in
+    turned_down _ (c.left_over-whole.ensures ∙ ap (λ (x : Cursor). left_over s x.at) places) c.if-whole-ne0.true
+    c.refused-then-whole-ne0.ensures.0
+    ∙ sym (going_on _ c.flat_header-head.ensures c.if-head-ne0.false
+    ∙ going_on _ places c.if-end-ne0.false)
 
 -- the header and the places were passed
-passed : (c : tie.Else3) → let c8 = c.before.before.before.before.before.before.before.before in
-    let s = c8.before.before.before.args.flat.now in
+passed : (c : tie.Else-whole-ne0) →
+    let s = c.args.flat.now in
     ((flat_header s).refusal.number ≡ 0) × ((places_end s).refusal.number ≡ 0)
 passed c =
-    let c5 = c.before.before.before.before.before in
-    let s = c5.before.before.before.before.before.before.args.flat.now in
-    let places = end s c5.before.place_count.ensures c5.net_bytes.ensures.0 in
-    (header c5.before.before, ap number (sym places) ∙ c.before.before.before.if2.false)
+    let s = c.args.flat.now in
+    let places = end s c.place_count.ensures c.net_bytes-end.ensures.0 in
+    (header c.before.before.before.before.before.before.before, ap number (sym places) ∙ c.if-end-ne0.false)
 
-flat-pins-requires : tie.Need-flat-pins-requires
+flat-pins-requires : tie.Need-flat_pins-requires
 flat-pins-requires c κs =
     let p = passed c in
     let h = (head_good _ p.0).0 in
     (h, (places_end_lem _ h p.1).1)
 
-flat-judged-requires : tie.Need-flat-judged-requires
+flat-judged-requires : tie.Need-flat_judged-requires
 flat-judged-requires c κs =
     let p = passed c.before in
     let g = head_good _ p.0 in
     (g.0, subst (Sited _) (sym c.flat_pins.ensures) (flat_sited _ g.1 g.0 p.1))
 
-returns-4 : tie.Need-returns-4
+returns-4 : tie.Need-returns
 unfolding flat_ticket_of
 returns-4 c =
-    let c7 = c.before.before.before.before.before.before.before in
-    let c11 = c7.before.before.before.before in
-    let s = c11.before.before.args.flat.now in
-    let places = end s c7.before.place_count.ensures c7.net_bytes.ensures.0 in
-    c.flat_judged.ensures ∙ ap (judged s) c.before.flat_pins.ensures
-    ∙ sym (going_on _ c11.flat_header.ensures c7.before.before.if1.false
-    ∙ going_on _ places c.before.before.before.before.before.if2.false
-    ∙ going_on _ (c.before.before.before.before.left_over.ensures ∙ ap (λ (x : Cursor). left_over s x.at) places)
-    c.before.before.if3.false)
+    let s = c.args.flat.now in
+    let places = end s c.place_count.ensures c.net_bytes-end.ensures.0 in
+    c.flat_judged.ensures ∙ ap (judged s) c.flat_pins.ensures
+    ∙ sym (going_on _ c.flat_header-head.ensures c.if-head-ne0.false
+    ∙ going_on _ places c.if-end-ne0.false
+    ∙ going_on _ (c.left_over-whole.ensures ∙ ap (λ (x : Cursor). left_over s x.at) places)
+    c.if-whole-ne0.false)
 
 pub parse_flat_spec : {M : Type 1} → statement M
 parse_flat_spec =

@@ -10,32 +10,31 @@ use Rattle.flat_reader.proofs.place_count.Statement.{statement}
 use Rattle.flat_reader.proofs.place_count.Tie as tie
 
 -- the three numbers are small
-small : (c : tie.After-south-places) → (c.before.north_places.result ≤ longest_side) × (c.south_places.result ≤ longest_side) ×
-    (c.before.before.end_places.result ≤ longest_side)
+small : (c : tie.After-south_places) → (c.north_places.result ≤ longest_side) × (c.south_places.result ≤ longest_side) ×
+    (c.end_places-ends.result ≤ longest_side)
 small c =
-    let a = c.before.before.before.before.before.before.before in
-    let s = a.args.flat.now in
-    let le = few s a.requires in (
-      omega (arith, c.before.north_places.ensures, le north),
+    let s = c.args.flat.now in
+    let le = few s c.requires in (
+      omega (arith, c.north_places.ensures, le north),
       omega (arith, c.south_places.ensures, le south),
-      omega (arith, c.before.before.end_places.ensures, le west),
+      omega (arith, c.end_places-ends.ensures, le west),
     )
 
-add-result : tie.Need-overflow-add-result
+add-result : tie.Need-overflow_add-result
 add-result c = omega (arith, small c)
 
-add-result-2 : tie.Need-overflow-add-result-2
+add-result-2 : tie.Need-overflow_add-result-2
 add-result-2 c = omega (arith, small c)
 
-add-result-3 : tie.Need-overflow-add-result-3
+add-result-3 : tie.Need-overflow_add-result-3
 add-result-3 c = omega (arith, small c)
 
 returns : tie.Need-returns
 unfolding place_count
 returns c =
-    let north = c.before.north_places.ensures in
+    let north = c.north_places.ensures in
     let south = c.south_places.ensures in
-    let ends = c.before.before.end_places.ensures in
+    let ends = c.end_places-ends.ensures in
     λ i. north i + south i + ends i + ends i
 
 pub place_count_spec : {M : Type 1} → statement M

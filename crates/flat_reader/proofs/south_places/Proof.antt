@@ -7,7 +7,7 @@ use Rattle.flat_reader.proofs.south_places.Statement.{statement}
 use Rattle.flat_reader.proofs.south_places.Tie as tie
 
 returns : tie.Need-returns
-returns c = c.by_kind.ensures ∙ on_side c.before.args.kind c.before.args.n false true true true
+returns c = c.by_kind.ensures ∙ on_side c.args.kind c.args.n false true true true
 
 pub south_places_spec : {M : Type 1} → statement M
 south_places_spec = tie.close (tie.spec (λ c κs. search rules) returns)

@@ -5,7 +5,7 @@ use Rattle.grid.proofs.Sizes.{area_le}
 use Rattle.grid.proofs.area.Statement.{statement}
 use Rattle.grid.proofs.area.Tie as tie
 
-mul-result : tie.Need-overflow-mul-result
+mul-result : tie.Need-overflow_mul-result
 mul-result c = omega (
   arith,
   area_le c.before.before.args.n.0 c.before.before.args.w.0 c.before.before.requires.0

@@ -4,10 +4,10 @@ use Rattle.grid.proofs.Sizes.{rows_le}
 use Rattle.grid.proofs.index_of.Statement.{statement}
 use Rattle.grid.proofs.index_of.Tie as tie
 
-sub-before : tie.Need-overflow-sub-before
+sub-before : tie.Need-overflow_sub-before
 sub-before c = omega arith
 
-mul-before : tie.Need-overflow-mul-before
+mul-before : tie.Need-overflow_mul-before
 mul-before c = omega (
   arith,
   rows_le c.before.before.args.n.0 c.before.before.args.w.0 c.before.before.args.k.0
@@ -15,10 +15,10 @@ mul-before c = omega (
       c.before.before.requires.0.0 c.before.before.requires.0.1 c.before.before.requires.0.2,
 )
 
-sub-before-2 : tie.Need-overflow-sub-before-2
+sub-before-2 : tie.Need-overflow_sub-before-2
 sub-before-2 c = omega arith
 
-add-before : tie.Need-overflow-add-before
+add-before : tie.Need-overflow_add-before
 add-before c = omega (
   arith,
   rows_le c.before.before.before.args.n.0 c.before.before.before.args.w.0
@@ -27,7 +27,7 @@ add-before c = omega (
       c.before.before.before.requires.0.1 c.before.before.before.requires.0.2,
 )
 
-mul-result : tie.Need-overflow-mul-result
+mul-result : tie.Need-overflow_mul-result
 mul-result c = omega (
   arith,
   rows_le c.before.before.before.before.args.n.0 c.before.before.before.before.args.w.0
@@ -36,10 +36,10 @@ mul-result c = omega (
       c.before.before.before.before.requires.0.1 c.before.before.before.before.requires.0.2,
 )
 
-sub-result : tie.Need-overflow-sub-result
+sub-result : tie.Need-overflow_sub-result
 sub-result c = omega arith
 
-add-result : tie.Need-overflow-add-result
+add-result : tie.Need-overflow_add-result
 add-result c = omega (
   arith,
   rows_le c.before.before.before.before.before.args.n.0 c.before.before.before.before.before.args.w.0

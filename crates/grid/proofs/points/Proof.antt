@@ -9,20 +9,20 @@ use Rattle.grid.proofs.Sizes.{area_le}
 use Rattle.grid.proofs.points.Statement.{statement}
 use Rattle.grid.proofs.points.Tie as tie
 
-area-requires : tie.Need-area-requires
+area-requires : tie.Need-area-each-requires
 area-requires c κs = search rules
 
-mul-result : tie.Need-overflow-mul-result
-mul-result c = let each : c.before.area.result ≤ longest_side * widest_grid = omega (
+mul-result : tie.Need-overflow_mul-result
+mul-result c = let each : c.before.area-each.result ≤ longest_side * widest_grid = omega (
   arith,
-  c.before.area.ensures,
+  c.before.area-each.ensures,
   area_le c.before.before.args.n.0 c.before.before.args.w.0 c.before.before.requires.0
       c.before.before.requires.1,
 ) in
     omega (arith, mul-le-mul {n₂ = longest_side * widest_grid} {m₂ = most_layers} each c.before.before.requires.2)
 
 returns : tie.Need-returns
-returns c = ap (λ (t : ℕ). t * c.before.before.args.k.0) c.before.area.ensures
+returns c = ap (λ (t : ℕ). t * c.before.before.args.k.0) c.before.area-each.ensures
 
 pub points_spec : {M : Type 1} → statement M
 points_spec = tie.close (tie.spec area-requires mul-result returns)

@@ -14,29 +14,28 @@ use Rattle.hardest_law.proofs.Promise.{shape_in, shape_refused, box_written}
 use Rattle.hardest.proofs.hardest_box.Statement.{statement}
 use Rattle.hardest.proofs.hardest_box.Tie as tie
 
-returns : tie.Need-returns
+returns : tie.Need-returns-then-not-is_shape
 returns c =
-    let a = c.before.before.before.before.before.args in
-    let answer = c.not_written.ensures ∙ ap refused_writing c.before.refuse.ensures in
+    let a = c.args in
+    let answer = c.not_written.ensures ∙ ap refused_writing c.refuse.ensures in
     subst (λ (r : Written). WritesHardest a.n.0 a.w.0 a.ticket.now a.ticket.now r) (sym answer)
     (shape_refused a.n.0 a.w.0 a.ticket.now
-    (failed c.before.before.before.is_shape.ensures c.before.before.if1.true))
+    (failed c.is_shape.ensures c.if-not-is_shape.true))
 
-make-box-requires : tie.Need-make-box-requires
-make-box-requires c κs = shape_in _ _ (passed c.before.is_shape.ensures c.if1.false)
+make-box-requires : tie.Need-make_box-requires
+make-box-requires c κs = shape_in _ _ (passed c.is_shape.ensures c.if-not-is_shape.false)
 
-write-ticket-requires : tie.Need-write-ticket-requires
+write-ticket-requires : tie.Need-write_ticket-requires
 write-ticket-requires c κs =
-    let shape = shape_in _ _ (passed c.before.before.before.is_shape.ensures c.before.before.if1.false) in
-    let good = subst Good (sym c.before.make_box.ensures) (hardest_good _ _ shape.0 shape.1) in
+    let shape = shape_in _ _ (passed c.is_shape.ensures c.if-not-is_shape.false) in
+    let good = subst Good (sym c.make_box.ensures) (hardest_good _ _ shape.0 shape.1) in
     (good.columns.1, (width_in good).1)
 
-returns-2 : tie.Need-returns-2
+returns-2 : tie.Need-returns
 returns-2 c =
-    let c4 = c.before.before.before.before in
-    let a = c4.before.before.before.before.args in
-    box_written a.n.0 a.w.0 a.ticket.now (passed c4.before.before.is_shape.ensures c4.before.if1.false)
-    (wrote_as (ap bytes_of c4.make_box.ensures) c.before.before.write_ticket.ensures)
+    let a = c.args in
+    box_written a.n.0 a.w.0 a.ticket.now (passed c.is_shape.ensures c.if-not-is_shape.false)
+    (wrote_as (ap bytes_of c.make_box.ensures) c.write_ticket.ensures)
 
 pub hardest_box_spec : {M : Type 1} → statement M
 hardest_box_spec =

@@ -9,9 +9,8 @@ use Rattle.hardest.proofs.is_shape.Tie as tie
 
 returns : tie.Need-returns
 returns c =
-    let c3 = c.before.before.before in
-    let n = c3.is_Within.ensures ∙ ap (λ (x : ℕ). within x longest_side) c3.before.column_count.ensures in
-    let w = c.before.is_within2.ensures ∙ ap (λ (x : ℕ). within x longest_side) c.before.before.track_count.ensures in
+    let n = c.is_within.ensures ∙ ap (λ (x : ℕ). within x longest_side) c.column_count.ensures in
+    let w = c.is_within-2.ensures ∙ ap (λ (x : ℕ). within x longest_side) c.track_count.ensures in
     c.both.ensures ∙ ap₂ (λ (a b : Bool). a && b) n w
 
 pub is_shape_spec : {M : Type 1} → statement M

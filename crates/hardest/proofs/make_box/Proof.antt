@@ -6,15 +6,12 @@ use Rattle.hardest.proofs.make_box.Tie as tie
 
 returns : tie.Need-returns
 returns c =
-    let c3 = c.before.before.before in
-    let c5 = c3.before.before in
-    let top = c5.before in
-    box_made top.args.n top.args.w.0 c5.column_count.ensures c3.before.track_count.ensures top.requires.0 top.requires.1
+    box_made c.args.n c.args.w.0 c.column_count-columns.ensures c.track_count-tracks.ensures c.requires.0 c.requires.1
     (record {
-      norths = c3.rising.ensures;
-      souths = c.before.before.opposite.ensures;
-      wests = c.before.rising2.ensures;
-      easts = c.opposite2.ensures;
+      norths = c.rising-north.ensures;
+      souths = c.opposite-south.ensures;
+      wests = c.rising-west.ensures;
+      easts = c.opposite-east.ensures;
     })
 
 pub make_box_spec : {M : Type 1} → statement M

@@ -7,13 +7,13 @@ use Rattle.hardest_law.specs.Box.{half, rotated}
 use Rattle.hardest.proofs.rotated.Statement.{statement}
 use Rattle.hardest.proofs.rotated.Tie as tie
 
-returns : tie.Need-returns
+returns : tie.Need-returns-then-on-p
 unfolding rotated
-returns c = let a = c.before.args in (rw (le-leb (a.a + half a.p) a.p c.if1.true), omega arith)
+returns c = let a = c.args in (rw (le-leb (a.a + half a.p) a.p c.if-on-p.true), omega arith)
 
-returns-2 : tie.Need-returns-2
+returns-2 : tie.Need-returns
 unfolding rotated
-returns-2 c = let a = c.before.args in (rw (lt-leb (a.a + half a.p) a.p c.if1.false), omega arith)
+returns-2 c = let a = c.args in (rw (lt-leb (a.a + half a.p) a.p c.if-on-p.false), omega arith)
 
 pub rotated_spec : {M : Type 1} → statement M
 rotated_spec = tie.close (tie.spec (λ c. search rules) (λ c. search rules) returns (λ c. search rules) returns-2)

@@ -10,25 +10,24 @@ use Rattle.lanes.proofs.Wanting.{Told, told_more}
 use Rattle.lanes.proofs.alone_or_turn.Statement.{statement}
 use Rattle.lanes.proofs.alone_or_turn.Tie as tie
 
-abbrev invariant-loop : tie.invariant-loop
+abbrev invariant-loop : tie.invariant-loop-k
 invariant-loop alone pairs turn out₀ k₀ out k =
     (k ≤ net_entries) × (length out ≡ net_entries) × Told (λ m. get_or alone m false || (get_or pairs m false && get_or turn m false)) out k
 
-abbrev decreases-loop : tie.decreases-loop
+abbrev decreases-loop : tie.decreases-loop-k
 decreases-loop alone pairs turn out₀ k₀ out k = net_entries - k
 
-loop-holds : tie.Need-loop-init invariant-loop decreases-loop
+loop-holds : tie.Need-loop-k-init invariant-loop decreases-loop
 loop-holds c = (omega arith, refl, λ m h. absurd (omega arith))
 
-loop-again : tie.Need-loop-preserved invariant-loop decreases-loop
+loop-again : tie.Need-loop-k-preserved invariant-loop decreases-loop
 loop-again c =
-    let c6 = c.before.before.before.before.before.before in
-    let l = c6.loop in
-    let e = c.either.ensures ∙ ap (λ (u : Bool). get_or c6.before.args.alone.now l.k false || u) c.before.both.ensures in
+    let l = c.loop-k in
+    let e = c.either.ensures ∙ ap (λ (u : Bool). get_or c.args.alone.now l.k false || u) c.both.ensures in
     (omega arith, simp length-set l.invariant.1, told_more _ l.out l.k c.either.result l.invariant.1 (omega arith) e l.invariant.2)
 
 returns : tie.Need-returns invariant-loop decreases-loop
-returns c = λ m h. c.before.loop.invariant.2 m (omega arith)
+returns c = λ m h. c.loop-k.invariant.2 m (omega arith)
 
 pub alone_or_turn_spec : {M : Type 1} → statement M
 alone_or_turn_spec =

@@ -12,31 +12,29 @@ use Rattle.terms.specs.Limits.{largest_net}
 use Rattle.lanes.proofs.count_left.Statement.{statement}
 use Rattle.lanes.proofs.count_left.Tie as tie
 
-abbrev invariant-loop : tie.invariant-loop
+abbrev invariant-loop : tie.invariant-loop-k
 invariant-loop left count₀ k₀ n k = (k ≤ largest_net) × (n ≡ count (λ m. get_or left m false) k)
 
-abbrev decreases-loop : tie.decreases-loop
+abbrev decreases-loop : tie.decreases-loop-k
 decreases-loop left count₀ k₀ n k = largest_net - k
 
-loop-holds : tie.Need-loop-init invariant-loop decreases-loop
+loop-holds : tie.Need-loop-k-init invariant-loop decreases-loop
 loop-holds c = (omega arith, sym (sum_none _))
 
-add-count : tie.Need-overflow-add-count invariant-loop decreases-loop
+add-count : tie.Need-overflow_add-count invariant-loop decreases-loop
 add-count c =
-    let c3 = c.before.before.before in
-    let left = c3.before.args.left.now in
-    let k = c3.loop.k in
-    omega (arith, c3.loop.invariant.1, count_le (λ m. get_or left m false) (k + 1), sum_more (λ m. bit (get_or left m false)) k, c.one_if.ensures)
+    let left = c.args.left.now in
+    let k = c.loop-k.k in
+    omega (arith, c.loop-k.invariant.1, count_le (λ m. get_or left m false) (k + 1), sum_more (λ m. bit (get_or left m false)) k, c.one_if-count.ensures)
 
-loop-again : tie.Need-loop-preserved invariant-loop decreases-loop
+loop-again : tie.Need-loop-k-preserved invariant-loop decreases-loop
 loop-again c =
-    let c3 = c.before.before.before in
-    let more = sum_more (λ m. bit (get_or c3.before.args.left.now m false)) c3.loop.k in
-    (omega arith, omega (arith, c3.loop.invariant.1, more, c.one_if.ensures))
+    let more = sum_more (λ m. bit (get_or c.args.left.now m false)) c.loop-k.k in
+    (omega arith, omega (arith, c.loop-k.invariant.1, more, c.one_if-count.ensures))
 
 returns : tie.Need-returns invariant-loop decreases-loop
 returns c =
-    let l = c.before.before.loop in
+    let l = c.loop-k in
     let e : l.k ≡ largest_net = omega arith in
     rw (← e) (omega (arith, l.invariant.1, c.wide.ensures))
 

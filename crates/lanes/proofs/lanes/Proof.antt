@@ -6,29 +6,23 @@ use Rattle.lanes.proofs.Placing.{lanes_distinct, lanes_of}
 use Rattle.lanes.proofs.lanes.Statement.{statement}
 use Rattle.lanes.proofs.lanes.Tie as tie
 
-who-needs-requires : tie.Need-who-needs-requires
-who-needs-requires c κs = c.before.requires.fits
+who-needs-requires : tie.Need-who_needs-left-requires
+who-needs-requires c κs = c.requires.fits
 
-take-own-requires : tie.Need-take-own-requires
+take-own-requires : tie.Need-take_own-placed-requires
 take-own-requires c κs =
-    let start = c.before.before.before.before in
-    (start.requires.most, start.requires.side, c.before.before.who_needs.ensures 0 (omega arith), omega (arith, c.before.before.who_needs.type-inv), refl)
+    (c.requires.most, c.requires.side, c.who_needs-left.ensures 0 (omega arith), omega (arith, c.who_needs-left.type_inv), refl)
 
-fill-spare-requires : tie.Need-fill-spare-requires
+fill-spare-requires : tie.Need-fill_spare-requires
 fill-spare-requires c κs =
-    let c6 = c.before.before.before.before.before.before in
-    let c9 = c6.before.before.before in
-    let own = c6.take_own.ensures in
-    rw c.before.before.count_left.ensures (lanes_distinct _ _ _ _ _ _ _ c9.before.before.requires _ c9.who_needs.ensures _ _ _ own.0 own.1)
+    let own = c.take_own-placed.ensures in
+    rw c.count_left-count.ensures (lanes_distinct _ _ _ _ _ _ _ c.requires _ c.who_needs-left.ensures _ _ _ own.0 own.1)
 
 returns : tie.Need-returns
 returns c =
-    let c3 = c.before.before.before in
-    let c7 = c3.before.before.before.before in
-    let c10 = c7.before.before.before in
-    let own = c7.take_own.ensures in
-    lanes_of _ _ _ _ _ _ _ c10.before.before.requires _ c10.who_needs.ensures _ _ _ own.0 own.1 _ _ c3.before.before.List-left.ensures
-    (rw c3.count_left.ensures at c.fill_spare.ensures)
+    let own = c.take_own-placed.ensures in
+    lanes_of _ _ _ _ _ _ _ c.requires _ c.who_needs-left.ensures _ _ _ own.0 own.1 _ _ c.list_left-list.ensures
+    (rw c.count_left-count.ensures at c.fill_spare.ensures)
 
 pub lanes_spec : {M : Type 1} → statement M
 lanes_spec =

@@ -14,36 +14,34 @@ use Rattle.lanes.proofs.Placing.{listed_none, listed_more}
 use Rattle.lanes.proofs.list_left.Statement.{statement}
 use Rattle.lanes.proofs.list_left.Tie as tie
 
-abbrev invariant-loop : tie.invariant-loop
+abbrev invariant-loop : tie.invariant-loop-k
 invariant-loop left list₀ count₀ k₀ list n k = (k ≤ largest_net) × (length list ≡ net_entries) × (n ≡ count (λ m. get_or left m false) k) × Listed left list n
 
-abbrev decreases-loop : tie.decreases-loop
+abbrev decreases-loop : tie.decreases-loop-k
 decreases-loop left list₀ count₀ k₀ list n k = largest_net - k
 
-loop-holds : tie.Need-loop-init invariant-loop decreases-loop
+loop-holds : tie.Need-loop-k-init invariant-loop decreases-loop
 loop-holds c = (omega arith, refl, sym (sum_none _), listed_none _ _)
 
-array-write-list : tie.Need-array-write-list invariant-loop decreases-loop
+array-write-list : tie.Need-bounds-list-count invariant-loop decreases-loop
 array-write-list c =
-    let l = c.before.loop in
-    omega (arith, l.invariant.1, l.invariant.2, count_le (λ m. get_or c.before.before.args.left.now m false) l.k)
+    let l = c.loop-k in
+    omega (arith, l.invariant.1, l.invariant.2, count_le (λ m. get_or c.args.left.now m false) l.k)
 
-add-count : tie.Need-overflow-add-count invariant-loop decreases-loop
+add-count : tie.Need-overflow_add-count invariant-loop decreases-loop
 add-count c =
-    let c4 = c.before.before.before.before in
-    omega (arith, c4.loop.invariant.2, count_le (λ m. get_or c4.before.args.left.now m false) c4.loop.k)
+    omega (arith, c.loop-k.invariant.2, count_le (λ m. get_or c.args.left.now m false) c.loop-k.k)
 
-loop-again : tie.Need-loop-preserved invariant-loop decreases-loop
+loop-again : tie.Need-loop-k-preserved invariant-loop decreases-loop
 loop-again c =
-    let c4 = c.before.before.before.before in
-    let l = c4.loop in
-    let more = listed_more c4.before.args.left.now l.list l.k l.count c.wide.result l.invariant.1 (omega arith) l.invariant.2
-    (c.wide.ensures ∙ c.before.one_if.ensures) l.invariant.3 in
+    let l = c.loop-k in
+    let more = listed_more c.args.left.now l.list l.k l.count c.wide-count.result l.invariant.1 (omega arith) l.invariant.2
+    (c.wide-count.ensures ∙ c.one_if.ensures) l.invariant.3 in
     (omega arith, simp length-set l.invariant.1, more.0, more.1)
 
 returns : tie.Need-returns invariant-loop decreases-loop
 returns c =
-    let l = c.before.loop in
+    let l = c.loop-k in
     let e : l.k ≡ largest_net = omega arith in
     rw (← e, ← l.invariant.2) l.invariant.3
 

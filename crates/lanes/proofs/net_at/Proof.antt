@@ -9,14 +9,14 @@ use Rattle.grid.specs.Legal.{entry}
 use Rattle.lanes.proofs.net_at.Statement.{statement}
 use Rattle.lanes.proofs.net_at.Tie as tie
 
-returns : tie.Need-returns
+returns : tie.Need-returns-then-i-own
 returns c =
-    let args = c.before.before.before.before.args in
+    let args = c.args in
     omega (arith, ap (entry args.own.now) (add-one args.i))
 
-returns-2 : tie.Need-returns-2
+returns-2 : tie.Need-returns
 returns-2 c =
-    let args = c.before.before.args in
+    let args = c.args in
     let l : length args.own.now ≤ args.i = omega arith in
     sym (get_or-eq_default args.own.now 0 l)
 

@@ -12,60 +12,57 @@ use Rattle.lanes.proofs.Placing.{small_net, took_none, took_more}
 use Rattle.lanes.proofs.take_own.Statement.{statement}
 use Rattle.lanes.proofs.take_own.Tie as tie
 
-abbrev invariant-loop : tie.invariant-loop
+abbrev invariant-loop : tie.invariant-loop-i
 invariant-loop own reversed top left₀ spare₀ lanes₀ count₀ i₀ left spare lanes n i =
     (i ≤ top) × (length left ≡ net_entries) × (length spare ≡ net_entries) × Took own left₀ left spare lanes n i
 
-abbrev decreases-loop : tie.decreases-loop
+abbrev decreases-loop : tie.decreases-loop-i
 decreases-loop own reversed top left₀ spare₀ lanes₀ count₀ i₀ left spare lanes n i = top - i
 
-loop-holds : tie.Need-loop-init invariant-loop decreases-loop
-loop-holds c = (omega arith, c.before.requires.3, c.before.requires.4, took_none _ _ _)
+loop-holds : tie.Need-loop-i-init invariant-loop decreases-loop
+loop-holds c = (omega arith, c.requires.3, c.requires.4, took_none _ _ _)
 
-small : (c : tie.After-net-at invariant-loop decreases-loop) → c.net_at.result ≤ largest_net
-small c = omega (arith, c.net_at.ensures, small_net _ c.before.before.loop.i c.before.before.before.before.requires.1)
+small : (c : tie.After-net_at-m invariant-loop decreases-loop) → c.net_at-m.result ≤ largest_net
+small c = omega (arith, c.net_at-m.ensures, small_net _ c.loop-i.i c.requires.1)
 
-element-copy-out-taken : tie.Need-element-copy-out-taken invariant-loop decreases-loop
-element-copy-out-taken c = omega (arith, small (c))
+element-copy-out-taken : tie.Need-bounds-left-m invariant-loop decreases-loop
+element-copy-out-taken c = omega (arith, small c.before)
 
-element-write-left : tie.Need-element-write-left invariant-loop decreases-loop
-element-write-left c = omega (arith, small c.before)
+element-write-left : tie.Need-bounds-left-m-in-loop-i invariant-loop decreases-loop
+element-write-left c = omega (arith, small c.before.before)
 
-if-taken-requires : tie.Need-if-taken-requires invariant-loop decreases-loop
-if-taken-requires c κs = omega (arith, small c.before)
+if-taken-requires : tie.Need-if_taken-requires invariant-loop decreases-loop
+if-taken-requires c κs = omega (arith, small c.before.before)
 
-add-count : tie.Need-overflow-add-count invariant-loop decreases-loop
+add-count : tie.Need-overflow_add-count invariant-loop decreases-loop
 add-count c =
-    let c3 = c.before.before.before in
-    let l = c3.before.before.loop in
+    let l = c.loop-i in
     omega (
       arith,
-      c3.before.before.before.before.requires.0,
+      c.requires.0,
       l.invariant.3.few,
-      c.one_unless.ensures,
+      c.one_unless-count.ensures,
       bit_le
-          (not (get_or l.left c3.net_at.result false)),
+          (not (get_or l.left c.net_at-m.result false)),
     )
 
-loop-again : tie.Need-loop-preserved invariant-loop decreases-loop
+loop-again : tie.Need-loop-i-preserved invariant-loop decreases-loop
 loop-again c =
-    let c3 = c.before.before.before in
-    let l = c3.before.before.loop in
-    let start = c3.before.before.before.before in
-    let e = c3.net_at.ensures in
-    let taken = get_or l.left c3.net_at.result false in (
+    let l = c.loop-i in
+    let e = c.net_at-m.ensures in
+    let taken = get_or l.left c.net_at-m.result false in (
       omega arith,
       simp length-set l.invariant.1,
       simp length-set l.invariant.2,
-      rw e (took_more start.args.own.now _ l.left l.spare l.lanes l.count l.i l.invariant.3 (omega arith) l.invariant.1 l.invariant.2
-          (small_net _ l.i start.requires.1) start.requires.2 taken c.before.if_taken.result c.one_unless.result
-          (ap (λ (x : ℕ). get_or l.left x false) e) (c.before.if_taken.ensures ∙ ap (λ (x : ℕ). cond taken x 0) e) c.one_unless.ensures),
+      rw e (took_more c.args.own.now _ l.left l.spare l.lanes l.count l.i l.invariant.3 (omega arith) l.invariant.1 l.invariant.2
+          (small_net _ l.i c.requires.1) c.requires.2 taken c.if_taken.result c.one_unless-count.result
+          (ap (λ (x : ℕ). get_or l.left x false) e) (c.if_taken.ensures ∙ ap (λ (x : ℕ). cond taken x 0) e) c.one_unless-count.ensures),
     )
 
 returns : tie.Need-returns invariant-loop decreases-loop
 returns c =
-    let l = c.before.loop in
-    let e : l.i ≡ c.before.before.before.args.top = omega arith in
+    let l = c.loop-i in
+    let e : l.i ≡ c.args.top = omega arith in
     (l.count, rw (← e) l.invariant.3)
 
 pub take_own_spec : {M : Type 1} → statement M

@@ -5,16 +5,15 @@ use Rattle.lanes.proofs.Wanting.{wanted_by}
 use Rattle.lanes.proofs.who_needs.Statement.{statement}
 use Rattle.lanes.proofs.who_needs.Tie as tie
 
-who-alone-requires : tie.Need-who-alone-requires
+who-alone-requires : tie.Need-who_alone-alone-requires
 who-alone-requires c κs = c.requires
 
 returns : tie.Need-returns
 returns c =
-    let c4 = c.before.before.before.before in
-    let pairs = c4.before.before.who_pairs in
-    let alone = c4.before.before.before.who_alone in
-    wanted_by _ _ alone.result pairs.result c4.turns.result c.alone_or_turn.result (omega (arith, c.alone_or_turn.type-inv))
-    alone.ensures pairs.ensures c4.turns.ensures c.alone_or_turn.ensures
+    let pairs = c.who_pairs-pairs in
+    let alone = c.who_alone-alone in
+    wanted_by _ _ alone.result pairs.result c.turns-turn.result c.alone_or_turn-out.result (omega (arith, c.alone_or_turn-out.type_inv))
+    alone.ensures pairs.ensures c.turns-turn.ensures c.alone_or_turn-out.ensures
 
 pub who_needs_spec : {M : Type 1} → statement M
 who_needs_spec =

@@ -11,9 +11,9 @@ returns c =
     let c5 = c3.before.before in
     let c7 = c5.before.before in
     let a = c7.before.before.args in
-    lone_four a.a a.b a.c a.d (sorted c5.before.smaller_byte.ensures c7.before.larger_byte.ensures)
-    (sorted c5.smaller_byte2.ensures c7.larger_byte2.ensures) (sorted c3.smaller_byte3.ensures c1.larger_byte5.ensures)
-    c3.before.larger_byte3.ensures c1.before.larger_byte4.ensures c.both.ensures
+    lone_four a.a a.b a.c a.d (sorted c5.before.smaller_byte.ensures c7.before.larger_byte-x.ensures)
+    (sorted c5.smaller_byte-2.ensures c7.larger_byte-y.ensures) (sorted c3.smaller_byte-3.ensures c1.larger_byte.ensures)
+    c3.before.larger_byte-pairs.ensures c1.before.larger_byte-second.ensures c.both.ensures
 
 pub is_lone_spec : {M : Type 1} → statement M
 is_lone_spec =

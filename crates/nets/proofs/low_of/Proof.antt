@@ -10,8 +10,8 @@ use Rattle.nets.proofs.low_of.Tie as tie
 returns : tie.Need-returns
 returns c =
     let a = c.before.before.before.args in
-    c.choose3.ensures ∙ ap (λ (x : ℕ). cond (eqb a.near 0) x 0)
-    (c.before.choose2.ensures ∙ ap (λ (x : ℕ). cond (eqb a.first 0) x a.first) c.before.before.choose.ensures)
+    c.choose.ensures ∙ ap (λ (x : ℕ). cond (eqb a.near 0) x 0)
+    (c.before.choose-from.ensures ∙ ap (λ (x : ℕ). cond (eqb a.first 0) x a.first) c.before.before.choose-beyond.ensures)
 
 pub low_of_spec : {M : Type 1} → statement M
 low_of_spec = tie.close (tie.spec (λ c κs. search rules) (λ c κs. search rules) (λ c κs. search rules) returns)

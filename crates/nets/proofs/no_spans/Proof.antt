@@ -10,7 +10,7 @@ abbrev made : PinTable → PinTable → Spans
 made columns tracks = record { columns = columns; tracks = tracks }
 
 returns : tie.Need-returns
-returns c = ap₂ made c.before.blank.ensures c.blank2.ensures
+returns c = ap₂ made c.before.blank-columns.ensures c.blank-tracks.ensures
 
 pub no_spans_spec : {M : Type 1} → statement M
 no_spans_spec = tie.close (tie.spec (λ c κs. search rules) (λ c κs. search rules) returns)

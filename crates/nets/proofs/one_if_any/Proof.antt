@@ -8,12 +8,12 @@ use Rattle.counting.proofs.Sums.{bit_one, bit_zero}
 use Rattle.nets.proofs.one_if_any.Statement.{statement}
 use Rattle.nets.proofs.one_if_any.Tie as tie
 
-returns : tie.Need-returns
+returns : tie.Need-returns-then-most-ge1
 returns c =
     let a = c.before.before.before.before.args in
     sym (bit_one (le-leb 1 (a.a + a.b + a.c + a.d) (omega arith)))
 
-returns-2 : tie.Need-returns-2
+returns-2 : tie.Need-returns-else-most-ge1
 returns-2 c =
     let a = c.before.before.before.before.args in
     sym (bit_zero (lt-leb 1 (a.a + a.b + a.c + a.d) (omega arith)))

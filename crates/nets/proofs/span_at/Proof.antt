@@ -21,7 +21,7 @@ returns c =
     let c7 = c4.before.before.before in
     let a = c7.before.before.before.before.args in
     let read = ap₂ (made a.m (get_or a.norths.now a.m 0) (get_or a.souths.now a.m 0) (get_or a.wests.now a.m 0)
-    (get_or a.easts.now a.m 0)) c7.low_of.ensures c4.high_of.ensures in
+    (get_or a.easts.now a.m 0)) c7.low_of-left.ensures c4.high_of-right.ensures in
     (read, λ q good e is i. subst (SpanOf (shape_of q) (pins_in q.pins) a.m) (sym read) (span_exact good e is a.m i))
 
 pub span_at_spec : {M : Type 1} → statement M

@@ -11,8 +11,8 @@ returns : tie.Need-returns
 returns c =
     let at_place = c.before in
     let own = at_place.before.before.args.own.now in
-    sym (entry_at own at_place.own_place.result (omega (arith, at_place.own_place.ensures.1)))
-    ∙ ap (entry own) at_place.own_place.ensures.0
+    sym (entry_at own at_place.own_place-at.result (omega (arith, at_place.own_place-at.ensures.1)))
+    ∙ ap (entry own) at_place.own_place-at.ensures.0
 
 pub pin_at_spec : {M : Type 1} → statement M
 pin_at_spec = tie.close (tie.spec (λ c κs. search rules) (λ c. search rules) (λ c. search rules) returns)

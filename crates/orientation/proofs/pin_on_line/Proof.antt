@@ -14,7 +14,7 @@ returns c =
     let start = c.before.before.before in
     let own = start.args.own.now in
     let r = start.args.reversed in
-    c.pin_at.ensures ∙ ap (λ (i : ℕ). entry own (own_place r (length own) i)) c.before.own_place.ensures.0
+    c.pin_at.ensures ∙ ap (λ (i : ℕ). entry own (own_place r (length own) i)) c.before.own_place-place.ensures.0
     ∙ ap (entry own) (own_place_again r (length own) start.args.line start.requires.1)
 
 pub pin_on_line_spec : {M : Type 1} → statement M

@@ -10,18 +10,18 @@ use Rattle.output.proofs.Laws.{copied_more}
 use Rattle.output.proofs.copy.Statement.{statement}
 use Rattle.output.proofs.copy.Tie as tie
 
-abbrev invariant-loop : tie.invariant-loop
+abbrev invariant-loop : tie.invariant-loop-i
 invariant-loop out₀ bytes used i₀ out i = (i ≤ used) × (length out ≡ length out₀) × (out ≡ take i bytes ++ drop i out₀)
 
-abbrev decreases-loop : tie.decreases-loop
+abbrev decreases-loop : tie.decreases-loop-i
 decreases-loop out₀ bytes used i₀ out i = used - i
 
-loop-holds : tie.Need-loop-init invariant-loop decreases-loop
+loop-holds : tie.Need-loop-i-init invariant-loop decreases-loop
 loop-holds c = (omega arith, refl, refl)
 
-loop-again : tie.Need-loop-preserved invariant-loop decreases-loop
+loop-again : tie.Need-loop-i-preserved invariant-loop decreases-loop
 loop-again c =
-    let l = c.before.loop in
+    let l = c.before.loop-i in
     let out = c.before.before.before.args.out in
     let size : length out.bytes ≡ most_output = search rules in (
       omega arith,
@@ -32,7 +32,7 @@ loop-again c =
 
 returns : tie.Need-returns invariant-loop decreases-loop
 returns c =
-    let l = c.before.loop in
+    let l = c.before.loop-i in
     let out = c.before.before.before.args.out in
     let e : l.i ≡ out.used = omega arith in
     l.invariant.2 ∙ ap (λ (k : ℕ). take k out.bytes ++ drop k c.before.before.before.args.buffer.now) e

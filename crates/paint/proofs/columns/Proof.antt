@@ -26,41 +26,32 @@ in_bounds values w d e f =
     let (a, b, c) = none_of (eqb n 0) (ltb longest_side n) (eqb w 0) (ap (λ (u : Bool). u || eqb w 0) (sym d) ∙ sym e ∙ f) in
     (omega (arith, eqb-false n 0 a), ltb-false longest_side n b, omega (arith, eqb-false w 0 c))
 
-slice-relend-prefix-copy : tie.Need-slice-relend-prefix-copy
+slice-relend-prefix-copy : tie.Need-slice_bounds-copy-end
 slice-relend-prefix-copy c =
-    let c5 = c.before.before.before.before.before in
-    let b = in_bounds c5.args.values.now _ c.before.before.either.ensures c.before.either2.ensures c.if1.false in
-    first_fits _ c5.args.w c5.args.part.now b.2 c5.requires
+    let b = in_bounds c.args.values.now _ c.either.ensures c.either-2.ensures c.if-either.false in
+    first_fits _ c.args.w c.args.part.now b.2 c.requires
 
-slice-aggregate-copy : tie.Need-slice-aggregate-copy
+slice-aggregate-copy : tie.Need-slice_bounds-copy-end-2
 slice-aggregate-copy c =
-    let c3 = c.before.before.before in
-    let c6 = c3.before.before.before in
-    let b = in_bounds c6.args.values.now _ c3.either.ensures c.before.before.either2.ensures c.before.if1.false in
-    sym (first_size _ c6.args.w c6.args.part.now b.2 c6.requires)
+    let b = in_bounds c.args.values.now _ c.either.ensures c.either-2.ensures c.if-either.false in
+    sym (first_size _ c.args.w c.args.part.now b.2 c.requires)
 
 copy-requires : tie.Need-copy-requires
 copy-requires c κs =
-    let c3 = c.before.before.before in
-    let c6 = c3.before.before.before in
-    let b = in_bounds c6.args.values.now _ c3.either.ensures c.before.before.either2.ensures c.before.if1.false in
-    first_size _ c6.args.w c6.args.part.now b.2 c6.requires
+    let b = in_bounds c.args.values.now _ c.either.ensures c.either-2.ensures c.if-either.false in
+    first_size _ c.args.w c.args.part.now b.2 c.requires
 
 repeat-requires : tie.Need-repeat-requires
 repeat-requires c κs =
-    let c5 = c.before.before.before.before.before in
-    let c10 = c5.before.before.before.before.before in
-    let b = in_bounds c10.args.values.now _ c5.before.before.either.ensures c5.before.either2.ensures c5.if1.false in
+    let b = in_bounds c.args.values.now _ c.either.ensures c.either-2.ensures c.if-either.false in
     (b.0, b.1, b.2, search rules)
 
-returns-2 : tie.Need-returns-2
+returns-2 : tie.Need-returns
 returns-2 c =
-    let c8 = c.before.before.before.before.before.before.before.before in
-    let c13 = c8.before.before.before.before.before in
-    let b = in_bounds c13.args.values.now _ c8.before.before.either.ensures c8.before.either2.ensures c8.if1.false in
-    let size = first_size _ c13.args.w c13.args.part.now b.2 c13.requires in
-    first_repeated _ _ c13.args.part.now b.2 c13.requires size c.before.before.before.before.before.before.copy.ensures
-    c.before.before.repeat.ensures
+    let b = in_bounds c.args.values.now _ c.either.ensures c.either-2.ensures c.if-either.false in
+    let size = first_size _ c.args.w c.args.part.now b.2 c.requires in
+    first_repeated _ _ c.args.part.now b.2 c.requires size c.copy.ensures
+    c.repeat.ensures
 
 pub columns_spec : {M : Type 1} → statement M
 columns_spec =

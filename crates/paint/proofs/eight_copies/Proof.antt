@@ -9,14 +9,14 @@ use Rattle.paint.proofs.Laws.{block_long, block_made}
 use Rattle.paint.proofs.eight_copies.Statement.{statement}
 use Rattle.paint.proofs.eight_copies.Tie as tie
 
-slice-aggregate-rows : tie.Need-slice-aggregate-rows
-slice-aggregate-rows c = sym (block_long _ _ c.before.before.requires (length-replicate {A = ℕ} (8 * longest_side) 0))
+slice-aggregate-rows : tie.Need-slice_bounds-rows-end
+slice-aggregate-rows c = sym (block_long _ _ c.requires (length-replicate {A = ℕ} (8 * longest_side) 0))
 
 rows-requires : tie.Need-rows-requires
-rows-requires c κs = block_long _ _ c.before.before.requires (length-replicate {A = ℕ} (8 * longest_side) 0) ∙ omega arith
+rows-requires c κs = block_long _ _ c.requires (length-replicate {A = ℕ} (8 * longest_side) 0) ∙ omega arith
 
 returns : tie.Need-returns
-returns c = block_made _ c.before.before.before.before.requires (length-replicate {A = ℕ} (8 * longest_side) 0) c.before.rows.ensures
+returns c = block_made _ c.requires (length-replicate {A = ℕ} (8 * longest_side) 0) c.rows.ensures
 
 pub eight_copies_spec : {M : Type 1} → statement M
 eight_copies_spec =

@@ -8,77 +8,76 @@ use Rattle.paint.proofs.Laws.{Above, above_none, above_within, above_left, above
 use Rattle.paint.proofs.narrow_runs.Statement.{statement}
 use Rattle.paint.proofs.narrow_runs.Tie as tie
 
-abbrev invariant-loop : tie.invariant-loop
+abbrev invariant-loop : tie.invariant-loop-from
 invariant-loop part₀ values n len from₀ j₀ part from j = Above part₀ part n (length values) j from (λ i z. get_or values z 0)
 
-abbrev decreases-loop : tie.decreases-loop
+abbrev decreases-loop : tie.decreases-loop-from
 decreases-loop part₀ values n len from₀ j₀ part from j = length values - j
 
-loop-holds : tie.Need-loop-init invariant-loop decreases-loop
-loop-holds c = above_none c.before.before.requires.1
+loop-holds : tie.Need-loop-from-init invariant-loop decreases-loop
+loop-holds c = above_none c.requires.1
 
-sub-loop : tie.Need-overflow-sub-loop invariant-loop decreases-loop
-sub-loop c = omega (arith, above_within c.loop.invariant)
+sub-loop : tie.Need-overflow_sub-len invariant-loop decreases-loop
+sub-loop c = omega (arith, above_within c.loop-from.invariant)
 
-add-fill : tie.Need-overflow-add-fill invariant-loop decreases-loop
-add-fill c = omega (arith, c.before.loop.invariant.rows.long)
+add-fill : tie.Need-overflow_add-from invariant-loop decreases-loop
+add-fill c = omega (arith, c.loop-from.invariant.rows.long)
 
-sub-fill : tie.Need-overflow-sub-fill invariant-loop decreases-loop
+sub-fill : tie.Need-slice_bounds-fill-count invariant-loop decreases-loop
 sub-fill c = omega arith
 
-part-fill-start : tie.Need-slice-bounds-fill-start invariant-loop decreases-loop
+part-fill-start : tie.Need-slice_bounds-fill-start invariant-loop decreases-loop
 part-fill-start c = omega arith
 
-part-fill-end : tie.Need-slice-bounds-fill-end invariant-loop decreases-loop
-part-fill-end c = omega (arith, c.before.loop.invariant.rows.long)
+part-fill-end : tie.Need-slice_bounds-fill-end invariant-loop decreases-loop
+part-fill-end c = omega (arith, c.loop-from.invariant.rows.long)
 
-shared-slice-read-fill : tie.Need-shared-slice-read-fill invariant-loop decreases-loop
-shared-slice-read-fill c = above_left (omega arith) c.before.before.before.loop.invariant
+shared-slice-read-fill : tie.Need-bounds-values-j invariant-loop decreases-loop
+shared-slice-read-fill c = above_left (omega arith) c.loop-from.invariant
 
-add-from : tie.Need-overflow-add-from invariant-loop decreases-loop
-add-from c = omega (arith, c.before.before.before.before.before.before.before.before.before.requires)
+add-from : tie.Need-overflow_add-from-in-loop-from invariant-loop decreases-loop
+add-from c = omega (arith, c.requires)
 
-add-j : tie.Need-overflow-add-j invariant-loop decreases-loop
-add-j c = omega (arith, above_left (omega arith) c.before.before.before.before.before.before.loop.invariant)
+add-j : tie.Need-overflow_add-j invariant-loop decreases-loop
+add-j c = omega (arith, above_left (omega arith) c.loop-from.invariant)
 
-loop-less : tie.Need-loop-smaller invariant-loop decreases-loop
-loop-less c = omega (arith, above_left (omega arith) c.before.before.before.before.before.before.loop.invariant)
+loop-less : tie.Need-loop-from-smaller invariant-loop decreases-loop
+loop-less c = omega (arith, above_left (omega arith) c.loop-from.invariant)
 
-loop-again : tie.Need-loop-preserved invariant-loop decreases-loop
+loop-again : tie.Need-loop-from-preserved invariant-loop decreases-loop
 loop-again c =
-    let c6 = c.before.before.before.before.before.before in
-    let pre = c6.before.before.before.requires in
-    above_step _ _ (omega (arith, pre)) (omega arith) (above_left (omega arith) c6.loop.invariant) (λ i h. refl) c6.loop.invariant
-    c.before.before.fill.ensures
+    let pre = c.requires in
+    above_step _ _ (omega (arith, pre)) (omega arith) (above_left (omega arith) c.loop-from.invariant) (λ i h. refl) c.loop-from.invariant
+    c.fill.ensures
 
-sub-runs : tie.Need-overflow-sub-runs invariant-loop decreases-loop
-sub-runs c = omega (arith, above_within c.before.loop.invariant)
+sub-runs : tie.Need-slice_bounds-runs-count invariant-loop decreases-loop
+sub-runs c = omega (arith, above_within c.loop-from.invariant)
 
-part-runs-start : tie.Need-slice-bounds-runs-start invariant-loop decreases-loop
-part-runs-start c = omega (arith, above_within c.before.loop.invariant)
+part-runs-start : tie.Need-slice_bounds-runs-start invariant-loop decreases-loop
+part-runs-start c = omega (arith, above_within c.loop-from.invariant)
 
-part-runs-end : tie.Need-slice-bounds-runs-end invariant-loop decreases-loop
-part-runs-end c = omega (arith, above_within c.before.loop.invariant, c.before.loop.invariant.rows.long)
+part-runs-end : tie.Need-slice_bounds-runs-end invariant-loop decreases-loop
+part-runs-end c = omega (arith, above_within c.loop-from.invariant, c.loop-from.invariant.rows.long)
 
-sub-runs-2 : tie.Need-overflow-sub-runs-2 invariant-loop decreases-loop
-sub-runs-2 c = c.before.before.loop.invariant.within
+sub-runs-2 : tie.Need-slice_bounds-runs-count-2 invariant-loop decreases-loop
+sub-runs-2 c = c.loop-from.invariant.within
 
-part-runs-start-2 : tie.Need-slice-bounds-runs-start-2 invariant-loop decreases-loop
-part-runs-start-2 c = omega (arith, c.before.before.loop.invariant.within)
+part-runs-start-2 : tie.Need-slice_bounds-runs-start-2 invariant-loop decreases-loop
+part-runs-start-2 c = omega (arith, c.loop-from.invariant.within)
 
-part-runs-end-2 : tie.Need-slice-bounds-runs-end-2 invariant-loop decreases-loop
-part-runs-end-2 c = omega (arith, c.before.before.loop.invariant.within)
+part-runs-end-2 : tie.Need-slice_bounds-runs-end-2 invariant-loop decreases-loop
+part-runs-end-2 c = omega (arith, c.loop-from.invariant.within)
 
 runs-requires : tie.Need-runs-requires invariant-loop decreases-loop
 runs-requires c κs =
-    let a = c.before.before.before.loop.invariant in
-    rest_long _ (rest_values _ c.before.before.before.before.before.before.args.values.now a.within) a
+    let a = c.loop-from.invariant in
+    rest_long _ (rest_values _ c.args.values.now a.within) a
 
 returns : tie.Need-returns invariant-loop decreases-loop
 returns c =
-    let a = c.before.before.before.before.before.before.loop.invariant in
-    let values = c.before.before.before.before.before.before.before.before.before.args.values.now in
-    above_rest _ (rest_values _ values a.within) a (striped_as refl (λ i z hi hz. rest_value _ z values hz) c.before.before.runs.ensures)
+    let a = c.loop-from.invariant in
+    let values = c.args.values.now in
+    above_rest _ (rest_values _ values a.within) a (striped_as refl (λ i z hi hz. rest_value _ z values hz) c.runs.ensures)
 
 pub narrow_runs_spec : {M : Type 1} → statement M
 narrow_runs_spec =

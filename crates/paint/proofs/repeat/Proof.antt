@@ -10,26 +10,22 @@ use Rattle.paint.proofs.Laws.{bytes_rows, one_row, first_fits}
 use Rattle.paint.proofs.repeat.Statement.{statement}
 use Rattle.paint.proofs.repeat.Tie as tie
 
-returns : tie.Need-returns
-returns c = one_row c.before.before.args.part.now c.if1.true
+returns : tie.Need-returns-then-w-eq1
+returns c = one_row c.args.part.now c.if-w-eq1.true
 
-slice-read-v : tie.Need-slice-read-v
+slice-read-v : tie.Need-bounds-part-0
 slice-read-v c =
-    let c4 = c.before.before.before.before in
-    omega (arith, first_fits c4.args.n c4.args.w c4.args.part.now c4.requires.2 c4.requires.3, c4.requires)
+    omega (arith, first_fits c.args.n c.args.w c.args.part.now c.requires.2 c.requires.3, c.requires)
 
-returns-2 : tie.Need-returns-2
+returns-2 : tie.Need-returns-then-n-eq1
 returns-2 c =
-    let c5 = c.before.before.before.before.before in
-    let c8 = c5.before.before.before in
-    bytes_rows c5.if2.true (c8.requires.3 ∙ ap (λ (u : ℕ). u * c8.args.w) c5.if2.true ∙ one-mul _) (λ j. refl)
-    c.before.before.fill.ensures
+    bytes_rows c.if-n-eq1.true (c.requires.3 ∙ ap (λ (u : ℕ). u * c.args.w) c.if-n-eq1.true ∙ one-mul _) (λ j. refl)
+    c.fill.ensures
 
-repeat-narrow-requires : tie.Need-repeat-narrow-requires
+repeat-narrow-requires : tie.Need-repeat_narrow-requires
 repeat-narrow-requires c κs =
-    let c6 = c.before.before.before.before.before.before in
-    let (narrow, long) = (and-eq-true_iff _ _).0 (sym c.before.before.both.ensures ∙ c.before.if3.true) in
-    (leb-true _ _ narrow, leb-true _ _ long, c6.requires.3)
+    let (narrow, long) = (and-eq-true_iff _ _).0 (sym c.both.ensures ∙ c.if-both.true) in
+    (leb-true _ _ narrow, leb-true _ _ long, c.requires.3)
 
 pub repeat_spec : {M : Type 1} → statement M
 repeat_spec =

@@ -7,20 +7,18 @@ use Rattle.paint.proofs.Laws.{row_bytes, striped_as}
 use Rattle.paint.proofs.repeat_narrow.Statement.{statement}
 use Rattle.paint.proofs.repeat_narrow.Tie as tie
 
-slice-aggregate-copy-2 : tie.Need-slice-aggregate-copy-2
-slice-aggregate-copy-2 c = sym (length-take-le _ c.before.before.before.args.part.now c.before.before.before.requires.1)
+slice-aggregate-copy-2 : tie.Need-slice_bounds-copy-end-3
+slice-aggregate-copy-2 c = sym (length-take-le _ c.args.part.now c.requires.1)
 
 copy-requires : tie.Need-copy-requires
-copy-requires c κs = sym (length-take-le _ c.before.before.before.args.part.now c.before.before.before.requires.1)
+copy-requires c κs = sym (length-take-le _ c.args.part.now c.requires.1)
 
 returns : tie.Need-returns
 returns c =
-    let c6 = c.before.before.before.before.before.before in
-    let c10 = c6.before.before.before.before in
-    let part = c10.args.part.now in
+    let part = c.args.part.now in
     striped_as refl
-    (λ i j hi hj. row_bytes c6.copy.ensures i (omega (arith, c10.requires)) ∙ get_or-take 16 part i 0 (omega (arith, c10.requires)))
-    c.before.before.narrow_rows.ensures
+    (λ i j hi hj. row_bytes c.copy.ensures i (omega (arith, c.requires)) ∙ get_or-take 16 part i 0 (omega (arith, c.requires)))
+    c.narrow_rows.ensures
 
 pub repeat_narrow_spec : {M : Type 1} → statement M
 repeat_narrow_spec =

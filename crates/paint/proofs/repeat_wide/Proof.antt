@@ -29,46 +29,38 @@ module _ {n : ℕ} {ys : List ℕ} {f : ℕ → ℕ → ℕ} (few : n ≤ longes
   held_size : length (take n (ys ++ drop n blank)) ≡ n
   held_size = length-take-le n (ys ++ drop n blank) (omega (arith, held.long, blank_long))
 
-slice-aggregate-copy : tie.Need-slice-aggregate-copy
-slice-aggregate-copy c = sym (blank_size c.before.before.requires.0)
+slice-aggregate-copy : tie.Need-slice_bounds-copy-end
+slice-aggregate-copy c = sym (blank_size c.requires.0)
 
-slice-reshare-prefix-copy : tie.Need-slice-reshare-prefix-copy
+slice-reshare-prefix-copy : tie.Need-slice_bounds-copy-end-2
 slice-reshare-prefix-copy c =
-    let c2 = c.before.before in
-    first_fits c2.args.n c2.args.w c2.args.part.now c2.requires.1 c2.requires.2
+    first_fits c.args.n c.args.w c.args.part.now c.requires.1 c.requires.2
 
-slice-aggregate-copy-2 : tie.Need-slice-aggregate-copy-2
+slice-aggregate-copy-2 : tie.Need-slice_bounds-copy-end-3
 slice-aggregate-copy-2 c =
-    let c3 = c.before.before.before in
-    sym (first_size _ c3.args.w c3.args.part.now c3.requires.1 c3.requires.2)
+    sym (first_size _ c.args.w c.args.part.now c.requires.1 c.requires.2)
 
 copy-requires : tie.Need-copy-requires
 copy-requires c κs =
-    let c3 = c.before.before.before in
-    blank_size c3.requires.0 ∙ sym (first_size _ c3.args.w c3.args.part.now c3.requires.1 c3.requires.2)
+    blank_size c.requires.0 ∙ sym (first_size _ c.args.w c.args.part.now c.requires.1 c.requires.2)
 
-slice-aggregate-r : tie.Need-slice-aggregate-r
-slice-aggregate-r c = sym (held c.before.before.before.before.before.before.requires.0 c.before.before.copy.ensures).long
+slice-aggregate-r : tie.Need-slice_bounds-r-end
+slice-aggregate-r c = sym (held c.requires.0 c.copy.ensures).long
 
-slice-aggregate-wide-rows : tie.Need-slice-aggregate-wide-rows
+slice-aggregate-wide-rows : tie.Need-slice_bounds-wide_rows-end
 slice-aggregate-wide-rows c =
-    let c4 = c.before.before.before.before in
-    sym (held_size c4.before.before.before.before.requires.0 c4.copy.ensures)
+    sym (held_size c.requires.0 c.copy.ensures)
 
-wide-rows-requires : tie.Need-wide-rows-requires
+wide-rows-requires : tie.Need-wide_rows-requires
 wide-rows-requires c κs =
-    let c4 = c.before.before.before.before in
-    let c8 = c4.before.before.before.before in
-    let size = held_size c8.requires.0 c4.copy.ensures in
-    (omega (arith, size, c8.requires), c8.requires.2 ∙ sym (ap (λ (u : ℕ). u * c8.args.w) size))
+    let size = held_size c.requires.0 c.copy.ensures in
+    (omega (arith, size, c.requires), c.requires.2 ∙ sym (ap (λ (u : ℕ). u * c.args.w) size))
 
 returns : tie.Need-returns
 returns c =
-    let c7 = c.before.before.before.before.before.before.before in
-    let c11 = c7.before.before.before.before in
-    let row = held c11.requires.0 c7.copy.ensures in
-    striped_as (held_size c11.requires.0 c7.copy.ensures)
-    (λ i j hi hj. get_or-take _ _ i 0 hi ∙ row.here i hi ∙ get_or-take _ c11.args.part.now i 0 hi) c.before.before.Wide-rows.ensures
+    let row = held c.requires.0 c.copy.ensures in
+    striped_as (held_size c.requires.0 c.copy.ensures)
+    (λ i j hi hj. get_or-take _ _ i 0 hi ∙ row.here i hi ∙ get_or-take _ c.args.part.now i 0 hi) c.wide_rows.ensures
 
 pub repeat_wide_spec : {M : Type 1} → statement M
 repeat_wide_spec =

@@ -7,53 +7,52 @@ use Rattle.paint.proofs.Laws.{Above, above_none, above_fits, above_step, above_a
 use Rattle.paint.proofs.rows.Statement.{statement}
 use Rattle.paint.proofs.rows.Tie as tie
 
-abbrev invariant-loop : tie.invariant-loop
+abbrev invariant-loop : tie.invariant-loop-j
 invariant-loop part₀ values w n from₀ j₀ part from j = Above part₀ part (length values) w j from (λ i z. get_or values i 0)
 
-abbrev decreases-loop : tie.decreases-loop
+abbrev decreases-loop : tie.decreases-loop-j
 decreases-loop part₀ values w n from₀ j₀ part from j = w - j
 
-loop-holds : tie.Need-loop-init invariant-loop decreases-loop
-loop-holds c = above_none c.before.before.requires
+loop-holds : tie.Need-loop-j-init invariant-loop decreases-loop
+loop-holds c = above_none c.requires
 
-add-copy : tie.Need-overflow-add-copy invariant-loop decreases-loop
-add-copy c = omega (arith, above_fits (omega arith) c.before.loop.invariant, c.before.loop.invariant.rows.long)
+add-copy : tie.Need-overflow_add-from invariant-loop decreases-loop
+add-copy c = omega (arith, above_fits (omega arith) c.loop-j.invariant, c.loop-j.invariant.rows.long)
 
-sub-copy : tie.Need-overflow-sub-copy invariant-loop decreases-loop
+sub-copy : tie.Need-slice_bounds-copy-count invariant-loop decreases-loop
 sub-copy c = omega arith
 
-part-copy-start : tie.Need-slice-bounds-copy-start invariant-loop decreases-loop
+part-copy-start : tie.Need-slice_bounds-copy-start invariant-loop decreases-loop
 part-copy-start c = omega arith
 
-part-copy-end : tie.Need-slice-bounds-copy-end invariant-loop decreases-loop
-part-copy-end c = omega (arith, above_fits (omega arith) c.before.loop.invariant, c.before.loop.invariant.rows.long)
+part-copy-end : tie.Need-slice_bounds-copy-end invariant-loop decreases-loop
+part-copy-end c = omega (arith, above_fits (omega arith) c.loop-j.invariant, c.loop-j.invariant.rows.long)
 
 copy-requires : tie.Need-copy-requires invariant-loop decreases-loop
 copy-requires c κs =
-    let c2 = c.before.before in
-    mid_size c2.loop.from _ c2.loop.part refl (omega (arith, above_fits (omega arith) c2.loop.invariant, c2.loop.invariant.rows.long))
+    mid_size c.loop-j.from _ c.loop-j.part refl (omega (arith, above_fits (omega arith) c.loop-j.invariant, c.loop-j.invariant.rows.long))
 
-add-from : tie.Need-overflow-add-from invariant-loop decreases-loop
+add-from : tie.Need-overflow_add-from-in-loop-j invariant-loop decreases-loop
 add-from c =
-    let a = c.before.before.before.before.before.loop.invariant in
+    let a = c.loop-j.invariant in
     omega (arith, above_fits (omega arith) a, a.rows.long)
 
-add-j : tie.Need-overflow-add-j invariant-loop decreases-loop
+add-j : tie.Need-overflow_step-j invariant-loop decreases-loop
 add-j c = omega arith
 
-loop-less : tie.Need-loop-smaller invariant-loop decreases-loop
+loop-less : tie.Need-loop-j-smaller invariant-loop decreases-loop
 loop-less c = omega arith
 
-loop-again : tie.Need-loop-preserved invariant-loop decreases-loop
+loop-again : tie.Need-loop-j-preserved invariant-loop decreases-loop
 loop-again c =
-    let a = c.before.before.before.before.before.loop.invariant in
-    above_step _ _ (omega arith) (above_fits (omega arith) a) (omega arith) (λ i h. refl) a c.before.before.copy.ensures
+    let a = c.loop-j.invariant in
+    above_step _ _ (omega arith) (above_fits (omega arith) a) (omega arith) (λ i h. refl) a c.copy.ensures
 
-same_length : tie.Need-same-length invariant-loop decreases-loop
-same_length c = c.before.loop.invariant.rows.long
+same_length : tie.Need-shape_of-part invariant-loop decreases-loop
+same_length c = c.loop-j.invariant.rows.long
 
 returns : tie.Need-returns invariant-loop decreases-loop
-returns c = above_all (omega arith) c.before.loop.invariant
+returns c = above_all (omega arith) c.loop-j.invariant
 
 pub rows_spec : {M : Type 1} → statement M
 rows_spec =

@@ -8,51 +8,51 @@ use Rattle.paint.proofs.Laws.{Above, above_none, above_fits, above_step, above_a
 use Rattle.paint.proofs.runs.Statement.{statement}
 use Rattle.paint.proofs.runs.Tie as tie
 
-abbrev invariant-loop : tie.invariant-loop
+abbrev invariant-loop : tie.invariant-loop-j
 invariant-loop part₀ values n from₀ j₀ j-end part from j = Above part₀ part n (length values) j from (λ i z. get_or values z 0)
 
-abbrev decreases-loop : tie.decreases-loop
+abbrev decreases-loop : tie.decreases-loop-j
 decreases-loop part₀ values n from₀ j₀ j-end part from j = length values - j
 
-loop-holds : tie.Need-loop-init invariant-loop decreases-loop
-loop-holds c = above_none c.before.before.requires
+loop-holds : tie.Need-loop-j-init invariant-loop decreases-loop
+loop-holds c = above_none c.requires
 
-add-fill : tie.Need-overflow-add-fill invariant-loop decreases-loop
-add-fill c = omega (arith, above_fits (omega arith) c.before.loop.invariant, c.before.loop.invariant.rows.long)
+add-fill : tie.Need-overflow_add-from invariant-loop decreases-loop
+add-fill c = omega (arith, above_fits (omega arith) c.loop-j.invariant, c.loop-j.invariant.rows.long)
 
-sub-fill : tie.Need-overflow-sub-fill invariant-loop decreases-loop
+sub-fill : tie.Need-slice_bounds-fill-count invariant-loop decreases-loop
 sub-fill c = omega arith
 
-part-fill-start : tie.Need-slice-bounds-fill-start invariant-loop decreases-loop
+part-fill-start : tie.Need-slice_bounds-fill-start invariant-loop decreases-loop
 part-fill-start c = omega arith
 
-part-fill-end : tie.Need-slice-bounds-fill-end invariant-loop decreases-loop
-part-fill-end c = omega (arith, above_fits (omega arith) c.before.loop.invariant, c.before.loop.invariant.rows.long)
+part-fill-end : tie.Need-slice_bounds-fill-end invariant-loop decreases-loop
+part-fill-end c = omega (arith, above_fits (omega arith) c.loop-j.invariant, c.loop-j.invariant.rows.long)
 
-shared-slice-read-fill : tie.Need-shared-slice-read-fill invariant-loop decreases-loop
+shared-slice-read-fill : tie.Need-bounds-values-j invariant-loop decreases-loop
 shared-slice-read-fill c = omega arith
 
-add-from : tie.Need-overflow-add-from invariant-loop decreases-loop
+add-from : tie.Need-overflow_add-from-in-loop-j invariant-loop decreases-loop
 add-from c =
-    let a = c.before.before.before.before.before.before.loop.invariant in
+    let a = c.loop-j.invariant in
     omega (arith, above_fits (omega arith) a, a.rows.long)
 
-add-j : tie.Need-overflow-add-j invariant-loop decreases-loop
+add-j : tie.Need-overflow_step-j invariant-loop decreases-loop
 add-j c = omega arith
 
-loop-less : tie.Need-loop-smaller invariant-loop decreases-loop
+loop-less : tie.Need-loop-j-smaller invariant-loop decreases-loop
 loop-less c = omega arith
 
-loop-again : tie.Need-loop-preserved invariant-loop decreases-loop
+loop-again : tie.Need-loop-j-preserved invariant-loop decreases-loop
 loop-again c =
-    let a = c.before.before.before.before.before.before.loop.invariant in
-    above_step _ _ (omega arith) (above_fits (omega arith) a) (omega arith) (λ i h. refl) a c.before.before.fill.ensures
+    let a = c.loop-j.invariant in
+    above_step _ _ (omega arith) (above_fits (omega arith) a) (omega arith) (λ i h. refl) a c.fill.ensures
 
-same_length : tie.Need-same-length invariant-loop decreases-loop
-same_length c = c.before.loop.invariant.rows.long
+same_length : tie.Need-shape_of-part invariant-loop decreases-loop
+same_length c = c.loop-j.invariant.rows.long
 
 returns : tie.Need-returns invariant-loop decreases-loop
-returns c = above_all (omega arith) c.before.loop.invariant
+returns c = above_all (omega arith) c.loop-j.invariant
 
 pub runs_spec : {M : Type 1} → statement M
 runs_spec =

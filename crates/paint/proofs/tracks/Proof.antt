@@ -10,15 +10,12 @@ use Rattle.paint.proofs.tracks.Tie as tie
 
 copy-requires : tie.Need-copy-requires
 copy-requires c κs =
-    let c4 = c.before.before.before.before in
-    c4.requires ∙ ap (λ (u : ℕ). u * length c4.args.values.now) c.before.if1.true ∙ one-mul _
+    c.requires ∙ ap (λ (u : ℕ). u * length c.args.values.now) c.if-n-eq1.true ∙ one-mul _
 
-returns : tie.Need-returns
+returns : tie.Need-returns-then-n-eq1
 returns c =
-    let c4 = c.before.before.before.before in
-    let c7 = c4.before.before.before in
-    bytes_rows c4.if1.true (c7.requires ∙ ap (λ (u : ℕ). u * length c7.args.values.now) c4.if1.true ∙ one-mul _) (λ j. refl)
-    c.before.before.copy.ensures
+    bytes_rows c.if-n-eq1.true (c.requires ∙ ap (λ (u : ℕ). u * length c.args.values.now) c.if-n-eq1.true ∙ one-mul _) (λ j. refl)
+    c.copy.ensures
 
 pub tracks_spec : {M : Type 1} → statement M
 tracks_spec =

@@ -6,16 +6,14 @@ use Rattle.answers.proofs.Storing.{answered, unanswered, not_both}
 use Rattle.pozqaben.proofs.pozqaben_lay.Statement.{statement}
 use Rattle.pozqaben.proofs.pozqaben_lay.Tie as tie
 
-returns : tie.Need-returns
+returns : tie.Need-returns-then-answer-lt-LAY_ENTRIES
 returns c = (unanswered _ _ (search rules), (λ _. refl, λ e. not_both e))
 
-returns-2 : tie.Need-returns-2
+returns-2 : tie.Need-returns
 returns-2 c =
-    let put = c.before.before.put in
-    let c5 = c.before.before.before.before.before in
-    let c8 = c5.before.before.before in
-    let l = c8.lay.ensures in (
-      answered (c5.lay_entries.ensures ∙ ap lay_entries l.answer) c8.before.before.if1.false put.ensures,
+    let put = c.put in
+    let l = c.lay.ensures in (
+      answered (c.lay_entries-entries.ensures ∙ ap lay_entries l.answer) c.if-answer-lt-LAY_ENTRIES.false put.ensures,
       (
         λ e. not_both (sym e),
         λ _. rw (← l.answer) l,

@@ -6,8 +6,8 @@ use Rattle.router.proofs.answered.Statement.{statement}
 use Rattle.router.proofs.answered.Tie as tie
 
 returns : tie.Need-returns
-returns c = let a = c.before.before.before.before.args in ap (answered a.refusal a.q a.f a.w.0)
-    c.before.before.before.first_direction.ensures
+returns c = let a = c.args in ap (answered a.refusal a.q a.f a.w.0)
+    c.first_direction-first.ensures
 
 pub answered_spec : {M : Type 1} → statement M
 answered_spec = tie.close (tie.spec (λ c κs. search rules) returns)

@@ -8,56 +8,49 @@ use Rattle.router.proofs.Tables.{thin_tables, wide_table}
 use Rattle.router.proofs.draw.Statement.{statement}
 use Rattle.router.proofs.draw.Tie as tie
 
-lay-row-requires : tie.Need-lay-row-requires
+lay-row-requires : tie.Need-lay_row-requires
 lay-row-requires c κs =
-    let s = c.before.before.before.before.before.before.before.before.before.before.before in
-    let e = c.before.before.before.if1.true in
-    let g = given_row s.args.q s.requires.0.0 s.args.w.0 s.requires.0.2 s.args.wiring.now s.requires.0.3 e in
-    (g.0, g.1, thin_tables s.args.q s.requires.0.0 s.requires.1 (subst Thin (sym e) thin_row))
+    let e = c.if-kind-eq-ROW.true in
+    let g = given_row c.args.q c.requires.0.0 c.args.w.0 c.requires.0.2 c.args.wiring.now c.requires.0.3 e in
+    (g.0, g.1, thin_tables c.args.q c.requires.0.0 c.requires.1 (subst Thin (sym e) thin_row))
 
-returns : tie.Need-returns
-returns c = let s = c.before.before.before.before.before.before.before.before.before.before.before.before.before.before in row_laid
-    s.args.q s.requires.0.0 s.args.w.0 s.requires.0.2 c.before.before.before.before.before.before.if1.true
-    c.before.before.lay_row.ensures
+returns : tie.Need-returns-then-kind-eq-ROW
+returns c = row_laid
+    c.args.q c.requires.0.0 c.args.w.0 c.requires.0.2 c.if-kind-eq-ROW.true
+    c.lay_row.ensures
 
-lay-channel-requires : tie.Need-lay-channel-requires
+lay-channel-requires : tie.Need-lay_channel-requires
 lay-channel-requires c κs =
-    let s = c.before.before.before.before.before.before.before.before.before.before.before.before in
-    let e = c.before.before.before.if2.true in
-    let g = given_channel s.args.q s.requires.0.0 s.args.w.0 s.requires.0.2 s.args.wiring.now s.requires.0.3 e in
-    (g, thin_tables s.args.q s.requires.0.0 s.requires.1 (subst Thin (sym e) thin_channel))
+    let e = c.if-kind-eq-CHANNEL.true in
+    let g = given_channel c.args.q c.requires.0.0 c.args.w.0 c.requires.0.2 c.args.wiring.now c.requires.0.3 e in
+    (g, thin_tables c.args.q c.requires.0.0 c.requires.1 (subst Thin (sym e) thin_channel))
 
-returns-2 : tie.Need-returns-2
+returns-2 : tie.Need-returns-then-kind-eq-CHANNEL
 returns-2 c =
-    let c6 = c.before.before.before.before.before.before in
-    let s = c6.before.before.before.before.before.before.before.before.before in
-    channel_laid s.args.q s.requires.0.0 s.args.w.0 s.requires.0.2 c6.if2.true c.before.before.lay_channel.ensures
+    channel_laid c.args.q c.requires.0.0 c.args.w.0 c.requires.0.2 c.if-kind-eq-CHANNEL.true c.lay_channel.ensures
 
-lay-box-requires : tie.Need-lay-box-requires
+lay-box-requires : tie.Need-lay_box-requires
 lay-box-requires c κs =
-    let s = c.before.before.before.before.before.before.before.before.before.before.before.before.before.before.before in
-    let q = s.args.q in
-    let good = s.requires.0.0 in
-    let is = s.requires.1 in
-    let e = c.before.before.before.before.before.if3.true in
-    let wide = box_wide q good s.args.w.0 s.requires.0.2 s.args.wiring.now s.requires.0.3 e in (
-      given_box q good s.args.w.0 s.requires.0.2 s.args.wiring.now s.requires.0.3 e,
+    let q = c.args.q in
+    let good = c.requires.0.0 in
+    let is = c.requires.1 in
+    let e = c.if-kind-eq-BOX.true in
+    let wide = box_wide q good c.args.w.0 c.requires.0.2 c.args.wiring.now c.requires.0.3 e in (
+      given_box q good c.args.w.0 c.requires.0.2 c.args.wiring.now c.requires.0.3 e,
       is.on_north,
       is.on_south,
       wide_table q good is west wide is.on_west,
       wide_table q good is east wide is.on_east,
     )
 
-returns-3 : tie.Need-returns-3
+returns-3 : tie.Need-returns-then-kind-eq-BOX
 returns-3 c =
-    let c8 = c.before.before.before.before.before.before.before.before in
-    let s = c8.before.before.before.before.before.before.before.before.before.before in
-    box_laid s.args.q s.requires.0.0 s.args.w.0 s.requires.0.2 c8.if3.true c.before.before.lay_box.ensures
+    box_laid c.args.q c.requires.0.0 c.args.w.0 c.requires.0.2 c.if-kind-eq-BOX.true c.lay_box.ensures
 
-returns-4 : tie.Need-returns-4
-returns-4 c = let s = c.before.before.before.before.before.before.before.before.before.before in absurd
-    (other_kind s.args.q.kind s.requires.0.0.kind c.before.before.if1.false c.before.if2.false c.if3.false
-    s.requires.0.1)
+returns-4 : tie.Need-returns-else-kind-eq-BOX
+returns-4 c = absurd
+    (other_kind c.args.q.kind c.requires.0.0.kind c.if-kind-eq-ROW.false c.if-kind-eq-CHANNEL.false c.if-kind-eq-BOX.false
+    c.requires.0.1)
 
 pub draw_spec : {M : Type 1} → statement M
 draw_spec =

@@ -13,87 +13,67 @@ use Rattle.router.proofs.Promise.{turned_solid, too_short, drawn, answer_is}
 use Rattle.router.proofs.lay_two_layer.Statement.{statement}
 use Rattle.router.proofs.lay_two_layer.Tie as tie
 
-find-plan-requires : tie.Need-find-plan-requires
+find-plan-requires : tie.Need-find_plan-plan-requires
 find-plan-requires c κs =
-    let s = c.before.before.before.before.before.before in
-    (s.requires.0.0.columns.1, s.requires.1.0, s.requires.1.1)
+    (c.requires.0.0.columns.1, c.requires.1.0, c.requires.1.1)
 
-returns : tie.Need-returns
+returns : tie.Need-returns-then-plan
 returns c =
-    let c3 = c.before.before.before in
-    let s = c3.before.before.before.before.before.before.before in
-    let q = s.args.q in
-    let (good, two, same) = s.requires.0 in
-    turned_solid q s.args.wiring.now c.refused.result
-    (two_layer_solid q two ∙ sym (solid_found q good two c3.find_plan.ensures) ∙ c.before.before.if1.true)
-    (c.refused.ensures ∙ ap refused c.before.refuse.ensures)
+    let q = c.args.q in
+    let (good, two, same) = c.requires.0 in
+    turned_solid q c.args.wiring.now c.refused.result
+    (two_layer_solid q two ∙ sym (solid_found q good two c.find_plan-plan.ensures) ∙ c.if-plan.true)
+    (c.refused.ensures ∙ ap refused c.refuse.ensures)
 
-tracks-requires : tie.Need-tracks-requires
+tracks-requires : tie.Need-tracks-tracks-requires
 tracks-requires c κs =
-    let c1 = c.before in
-    let s = c1.before.before.before.before.before.before.before in
-    let (good, two, same) = s.requires.0 in
-    few_operations (given s.args.q good two c1.find_plan.ensures c.if1.false)
+    let (good, two, same) = c.requires.0 in
+    few_operations (given c.args.q good two c.find_plan-plan.ensures c.if-plan.false)
 
-points-requires : tie.Need-points-requires
+points-requires : tie.Need-points-length-requires
 points-requires c κs =
-    let c2 = c.before.before in
-    let s = c2.before.before.before.before.before.before.before in
-    let q = s.args.q in
-    let (good, two, same) = s.requires.0 in
-    let there = given q good two c2.find_plan.ensures c.before.if1.false in
-    let w = tracks_laid q good two c2.find_plan.ensures c.before.if1.false c.tracks.result.0 c.tracks.ensures in
-    (good.columns.1, omega (arith, narrow there, w), omega (arith, two_layers q good two c.tracks.result.0 w s.args.f same))
+    let q = c.args.q in
+    let (good, two, same) = c.requires.0 in
+    let there = given q good two c.find_plan-plan.ensures c.if-plan.false in
+    let w = tracks_laid q good two c.find_plan-plan.ensures c.if-plan.false c.tracks-tracks.result.0 c.tracks-tracks.ensures in
+    (good.columns.1, omega (arith, narrow there, w), omega (arith, two_layers q good two c.tracks-tracks.result.0 w c.args.f same))
 
-returns-2 : tie.Need-returns-2
+returns-2 : tie.Need-returns-then-wiring-length
 returns-2 c =
-    let c3 = c.before.before.before in
-    let c4 = c3.before in
-    let c6 = c4.before.before in
-    let s = c6.before.before.before.before.before.before.before in
-    let q = s.args.q in
-    let (good, two, same) = s.requires.0 in
-    let found = c6.find_plan.ensures in
-    let wirable = c4.before.if1.false in
-    let w = tracks_laid q good two found wirable c4.tracks.result.0 c4.tracks.ensures in
-    let size = size_needed q good two c4.tracks.result.0 w s.args.f same c3.points.result c3.points.ensures in
-    too_short q s.args.wiring.now c.refused2.result c3.points.result
-    (two_layer_solid q two ∙ sym (solid_found q good two found) ∙ wirable) size c.before.before.if2.true
-    (c.refused2.ensures ∙ ap refused c.before.refuse2.ensures)
+    let q = c.args.q in
+    let (good, two, same) = c.requires.0 in
+    let found = c.find_plan-plan.ensures in
+    let wirable = c.if-plan.false in
+    let w = tracks_laid q good two found wirable c.tracks-tracks.result.0 c.tracks-tracks.ensures in
+    let size = size_needed q good two c.tracks-tracks.result.0 w c.args.f same c.points-length.result c.points-length.ensures in
+    too_short q c.args.wiring.now c.refused-then-wiring-length.result c.points-length.result
+    (two_layer_solid q two ∙ sym (solid_found q good two found) ∙ wirable) size c.if-wiring-length.true
+    (c.refused-then-wiring-length.ensures ∙ ap refused c.refuse-then-wiring-length.ensures)
 
 lay-requires : tie.Need-lay-requires
 lay-requires c κs =
-    let c4 = c.before.before.before.before in
-    let c5 = c4.before in
-    let c7 = c5.before.before in
-    let s = c7.before.before.before.before.before.before.before in
-    let q = s.args.q in
-    let (good, two, same) = s.requires.0 in
-    let found = c7.find_plan.ensures in
-    let wirable = c5.before.if1.false in
-    let w = tracks_laid q good two found wirable c5.tracks.result.0 c5.tracks.ensures in
-    let layers = two_layers q good two c5.tracks.result.0 w s.args.f same in
-    let size = ap (λ (k : ℕ). q.n.0 * c5.tracks.result.0 * k) layers in
-    (given q good two found wirable, (w, omega (arith, size, c4.points.ensures, c.before.before.before.if2.false)))
+    let q = c.args.q in
+    let (good, two, same) = c.requires.0 in
+    let found = c.find_plan-plan.ensures in
+    let wirable = c.if-plan.false in
+    let w = tracks_laid q good two found wirable c.tracks-tracks.result.0 c.tracks-tracks.ensures in
+    let layers = two_layers q good two c.tracks-tracks.result.0 w c.args.f same in
+    let size = ap (λ (k : ℕ). q.n.0 * c.tracks-tracks.result.0 * k) layers in
+    (given q good two found wirable, (w, omega (arith, size, c.points-length.ensures, c.if-wiring-length.false)))
 
-returns-3 : tie.Need-returns-3
+returns-3 : tie.Need-returns
 returns-3 c =
-    let c4 = c.before.before.before.before in
-    let c9 = c4.before.before.before.before.before in
-    let c10 = c9.before in
-    let c12 = c10.before.before in
-    let s = c12.before.before.before.before.before.before.before in
-    let q = s.args.q in
-    let (good, two, same) = s.requires.0 in
-    let found = c12.find_plan.ensures in
-    let wirable = c10.before.if1.false in
-    let tracks = c10.tracks.result.0 in
-    let w = tracks_laid q good two found wirable tracks c10.tracks.ensures in
-    let size = size_needed q good two tracks w s.args.f same c9.points.result c9.points.ensures in
-    drawn q s.args.wiring.now c.answered.result _ (two_layer_solid q two ∙ sym (solid_found q good two found) ∙ wirable)
-    (omega (arith, size, c9.points.ensures, c4.before.before.before.before.if2.false))
-    (laid_there q good two tracks w s.args.f same c4.lay.ensures)
-    (c.answered.ensures ∙ answer_is q c.before.refuse3.ensures same (width_laid q good two tracks w s.args.f same))
+    let q = c.args.q in
+    let (good, two, same) = c.requires.0 in
+    let found = c.find_plan-plan.ensures in
+    let wirable = c.if-plan.false in
+    let tracks = c.tracks-tracks.result.0 in
+    let w = tracks_laid q good two found wirable tracks c.tracks-tracks.ensures in
+    let size = size_needed q good two tracks w c.args.f same c.points-length.result c.points-length.ensures in
+    drawn q c.args.wiring.now c.answered.result _ (two_layer_solid q two ∙ sym (solid_found q good two found) ∙ wirable)
+    (omega (arith, size, c.points-length.ensures, c.if-wiring-length.false))
+    (laid_there q good two tracks w c.args.f same c.lay.ensures)
+    (c.answered.ensures ∙ answer_is q c.refuse-2.ensures same (width_laid q good two tracks w c.args.f same))
 
 pub lay_two_layer_spec : {M : Type 1} → statement M
 lay_two_layer_spec =

@@ -9,14 +9,11 @@ use Rattle.survey.proofs.counts.Tie as tie
 
 returns : tie.Need-returns
 returns c =
-    let f2 = c.before.before in
-    let f1 = f2.before.before in
-    let one = adds_same (text " nets ") f1.before.wide.ensures f1.field.ensures.0 in (
-      adds_adds (adds_adds one f2.field2.ensures.0) c.field3.ensures.0,
-      omega (arith, c.field3.ensures.1, f2.field2.ensures.1, f1.field.ensures.1),
+    let one = adds_same (text " nets ") c.wide.ensures c.field-line.ensures.0 in (
+      adds_adds (adds_adds one c.field-line-2.ensures.0) c.field.ensures.0,
+      omega (arith, c.field.ensures.1, c.field-line-2.ensures.1, c.field-line.ensures.1),
     )
 
 pub counts_spec : {M : Type 1} → statement M
 counts_spec =
-    tie.close (tie.spec (λ c. search rules) (λ c κs. search rules) (λ c κs. search rules) (λ c. search rules) (λ c κs. search rules)
-    (λ c. search rules) (λ c κs. search rules) returns)
+    tie.close (tie.spec (λ c κs. search rules) (λ c κs. search rules) (λ c κs. search rules) (λ c κs. search rules) returns)

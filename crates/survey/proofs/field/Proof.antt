@@ -14,15 +14,15 @@ small x h = omega (arith, h)
 
 number-requires : tie.Need-number-requires
 number-requires c κs =
-    let x = c.before.before.args.x in
-    omega (arith, c.append.ensures.size, decimal_length 19 x (small x c.before.before.ranges.x))
+    let x = c.args.x in
+    omega (arith, c.append.ensures.size, decimal_length 19 x (small x c.ranges.x))
 
 returns : tie.Need-returns
 returns c =
-    let x = c.before.before.before.args.x in (
-      adds_adds c.before.append.ensures c.number.ensures,
+    let x = c.args.x in (
+      adds_adds c.append.ensures c.number.ensures,
       omega
-          (arith, c.before.append.ensures.size, c.number.ensures.size, decimal_length 19 x (small x c.before.before.before.ranges.x)),
+          (arith, c.append.ensures.size, c.number.ensures.size, decimal_length 19 x (small x c.ranges.x)),
     )
 
 pub field_spec : {M : Type 1} → statement M

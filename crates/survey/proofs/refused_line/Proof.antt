@@ -9,20 +9,20 @@ use Rattle.survey.proofs.refused_line.Tie as tie
 
 returns : tie.Need-returns
 returns c =
-    let one = says_adds c.before.before.before.before.before.before.blank.ensures
-    (adds_same (text "refused ") c.before.before.before.before.wide.ensures c.before.before.before.field.ensures.0) in
-    let two = says_adds one c.before.field2.ensures.0 in (
+    let one = says_adds c.blank.ensures
+    (adds_same (text "refused ") c.wide.ensures c.field-line.ensures.0) in
+    let two = says_adds one c.field-line-2.ensures.0 in (
       says_adds two c.put.ensures,
       omega (
         arith,
         c.put.ensures.size,
-        c.before.field2.ensures.1,
-        c.before.before.before.field.ensures.1,
-        c.before.before.before.before.before.before.blank.ensures.size,
+        c.field-line-2.ensures.1,
+        c.field-line.ensures.1,
+        c.blank.ensures.size,
       ),
     )
 
 pub refused_line_spec : {M : Type 1} → statement M
 refused_line_spec =
-    tie.close (tie.spec (λ c κs. search rules) (λ c. search rules) (λ c κs. search rules) (λ c κs. search rules) (λ c. search rules)
-    (λ c κs. search rules) (λ c κs. search rules) returns)
+    tie.close (tie.spec (λ c κs. search rules) (λ c κs. search rules) (λ c κs. search rules) (λ c κs. search rules)
+    (λ c κs. search rules) returns)

@@ -11,12 +11,10 @@ use Rattle.survey.proofs.survey_line.Tie as tie
 
 returns : tie.Need-returns
 returns c =
-    let c3 = c.before.before.before in
-    let c5 = c3.before.before in
-    let said = c5.line_for.ensures in
-    let same = c5.before.survey.ensures in
-    lined c5.before.before.before.before.args.ticket.now (said.0.size ∙ ap (λ (x : SurveyAnswer). length (line_for x)) same)
-    said.1 (wrote_as (said.0.bytes ∙ ap line_for same) c3.deliver.ensures)
+    let said = c.line_for-line.ensures in
+    let same = c.survey.ensures in
+    lined c.args.ticket.now (said.0.size ∙ ap (λ (x : SurveyAnswer). length (line_for x)) same)
+    said.1 (wrote_as (said.0.bytes ∙ ap line_for same) c.deliver-r.ensures)
 
 pub survey_line_spec : {M : Type 1} → statement M
 survey_line_spec =

@@ -7,29 +7,24 @@ use Rattle.survey.proofs.trunk_line.Tie as tie
 
 returns : tie.Need-returns
 returns c =
-    let f4 = c.before in
-    let f3 = f4.before.before in
-    let f2 = f3.before.before in
-    let f1 = f2.before in
-    let start = f1.before in
-    let one = says_adds start.blank.ensures f1.field.ensures.0 in
-    let two = says_adds one f2.counts.ensures.0 in
-    let three = says_adds two f3.field2.ensures.0 in
-    let four = says_adds three f4.field3.ensures.0 in (
+    let one = says_adds c.blank.ensures c.field-line.ensures.0 in
+    let two = says_adds one c.counts-line.ensures.0 in
+    let three = says_adds two c.field-line-2.ensures.0 in
+    let four = says_adds three c.field-line-3.ensures.0 in (
       says_adds four c.put.ensures,
       omega (
         arith,
         c.put.ensures.size,
-        f4.field3.ensures.1,
-        f3.field2.ensures.1,
-        f2.counts.ensures.1,
-        f1.field.ensures.1,
-        start.blank.ensures.size,
-        start.before.before.requires,
+        c.field-line-3.ensures.1,
+        c.field-line-2.ensures.1,
+        c.counts-line.ensures.1,
+        c.field-line.ensures.1,
+        c.blank.ensures.size,
+        c.requires,
       ),
     )
 
 pub trunk_line_spec : {M : Type 1} → statement M
 trunk_line_spec =
-    tie.close (tie.spec (λ c κs. search rules) (λ c κs. search rules) (λ c κs. search rules) (λ c. search rules) (λ c κs. search rules)
-    (λ c. search rules) (λ c κs. search rules) (λ c κs. search rules) returns)
+    tie.close (tie.spec (λ c κs. search rules) (λ c κs. search rules) (λ c κs. search rules) (λ c κs. search rules)
+    (λ c κs. search rules) (λ c κs. search rules) returns)

@@ -4,17 +4,13 @@ use borrow.Author.Rules.{rules}
 use Rattle.switchbox.proofs.paint_across.Statement.{statement}
 use Rattle.switchbox.proofs.paint_across.Tie as tie
 
-returns : tie.Need-returns
+returns : tie.Need-returns-then-turned
 returns c =
-    let at-columns = c.before.before in
-    let at-if1 = at-columns.before.before in
-    striped_turned _ at-if1.if1.true at-columns.columns.ensures
+    striped_turned _ c.if-turned.true c.columns.ensures
 
-returns-2 : tie.Need-returns-2
+returns-2 : tie.Need-returns
 returns-2 c =
-    let at-tracks = c.before.before in
-    let at-if1 = at-tracks.before.before in
-    striped_plain _ at-if1.if1.false at-tracks.tracks.ensures
+    striped_plain _ c.if-turned.false c.tracks.ensures
 
 pub paint_across_spec : {M : Type 1} → statement M
 paint_across_spec =

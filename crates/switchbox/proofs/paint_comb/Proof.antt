@@ -7,44 +7,38 @@ use borrow.Author.Rules.{rules}
 use Rattle.switchbox.proofs.paint_comb.Statement.{statement}
 use Rattle.switchbox.proofs.paint_comb.Tie as tie
 
-abbrev start : tie.After-pins-of → tie.Start
+abbrev start : tie.After-pins_of-pins → tie.Start
 start c = c.before.before.before.before.before.before.before
 
-abbrev Found : tie.After-pins-of → Type 0
+abbrev Found : tie.After-pins_of-pins → Type 0
 Found c =
     let a = (start c).args in
-    Own (orientation_of a.o) a.north.now a.south.now a.west.now a.east.now (side_named a.side) c.pins_of.result.now
+    Own (orientation_of a.o) a.north.now a.south.now a.west.now a.east.now (side_named a.side) c.pins_of-pins.result.now
 
 -- the list that is looked up is the ticket's own
-found : (c : tie.After-pins-of) → Found c
+found : (c : tie.After-pins_of-pins) → Found c
 found c =
     let a = (start c).args in
     record {
-      is = c.pins_of.ensures ∙ ap (by_side a.north.now a.south.now a.west.now a.east.now)
-          c.before.own_side.ensures.side;
+      is = c.pins_of-pins.ensures ∙ ap (by_side a.north.now a.south.now a.west.now a.east.now)
+          c.own_side-own.ensures.side;
     }
 
-track-comb-requires : tie.Need-track-comb-requires
+track-comb-requires : tie.Need-track_comb-requires
 track-comb-requires c κs =
-    let at-pins = c.before.before in
-    combed_tracks (found at-pins) (start at-pins).requires
+    combed_tracks (found c.before.before) (start c.before.before).requires
 
-returns : tie.Need-returns
+returns : tie.Need-returns-then-by_track
 returns c =
-    let at-comb = c.before.before in
-    let at-if1 = at-comb.before.before in
-    comb_tracks (found at-if1.before) _ at-if1.if1.true at-comb.track_comb.ensures
+    comb_tracks (found c.before.before.before.before.before) _ c.if-by_track.true c.track_comb.ensures
 
-column-comb-requires : tie.Need-column-comb-requires
+column-comb-requires : tie.Need-column_comb-requires
 column-comb-requires c κs =
-    let at-pins = c.before.before in
-    combed_columns (found at-pins) (start at-pins).requires
+    combed_columns (found c.before.before) (start c.before.before).requires
 
-returns-2 : tie.Need-returns-2
+returns-2 : tie.Need-returns
 returns-2 c =
-    let at-comb = c.before.before in
-    let at-if1 = at-comb.before.before in
-    comb_columns (found at-if1.before) _ at-if1.if1.false at-comb.column_comb.ensures
+    comb_columns (found c.before.before.before.before.before) _ c.if-by_track.false c.column_comb.ensures
 
 pub paint_comb_spec : {M : Type 1} → statement M
 paint_comb_spec =

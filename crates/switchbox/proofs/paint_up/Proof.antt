@@ -4,17 +4,13 @@ use borrow.Author.Rules.{rules}
 use Rattle.switchbox.proofs.paint_up.Statement.{statement}
 use Rattle.switchbox.proofs.paint_up.Tie as tie
 
-returns : tie.Need-returns
+returns : tie.Need-returns-then-turned
 returns c =
-    let at-tracks = c.before.before in
-    let at-if1 = at-tracks.before.before in
-    striped_turned _ at-if1.if1.true at-tracks.tracks.ensures
+    striped_turned _ c.if-turned.true c.tracks.ensures
 
-returns-2 : tie.Need-returns-2
+returns-2 : tie.Need-returns
 returns-2 c =
-    let at-columns = c.before.before in
-    let at-if1 = at-columns.before.before in
-    striped_plain _ at-if1.if1.false at-columns.columns.ensures
+    striped_plain _ c.if-turned.false c.columns.ensures
 
 pub paint_up_spec : {M : Type 1} → statement M
 paint_up_spec =

@@ -4,7 +4,7 @@ use mathlib.Core.Path.{◌≡◌, refl, ap, ◌∙◌}
 use mathlib.Core.Bool.{Bool, true, false, cond}
 use lib.Dec.{eqb}
 use borrow.Author.Rules.{rules}
-use Rattle.terms.specs.Kinds.{row, channel, box, two_layer, by_kind, is_kind}
+use Rattle.terms.specs.Kinds.{row, channel, box, two_layer}
 use Rattle.terms.proofs.is_kind.Statement.{statement}
 use Rattle.terms.proofs.is_kind.Tie as tie
 

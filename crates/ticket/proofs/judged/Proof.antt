@@ -10,46 +10,34 @@ use Rattle.ticket.proofs.Counted.{spans_any, spans_read, spans_ask, judged_refus
 use Rattle.ticket.proofs.judged.Statement.{statement}
 use Rattle.ticket.proofs.judged.Tie as tie
 
-spans-of-requires : tie.Need-spans-of-requires
+spans-of-requires : tie.Need-spans_of-spans-requires
 spans-of-requires c κs =
-    let c5 = c.before.before.before.before.before in
-    let a = c5.before.before.before.before.before in
-    spans_ask a.args.ticket.now a.args.t2 a.requires.1 c5.by_kind.ensures
+    spans_ask c.args.ticket.now c.args.pins c.requires.1 c.by_kind-w.ensures
 
 spans_as : {q q' : Problem} {t t' : Spans} → q' ≡ q → t' ≡ t → SpansOf q t → SpansOf q' t'
 spans_as {q} {t' = t'} a b is = subst (λ (u : Problem). SpansOf u t') (sym a) (subst (SpansOf q) (sym b) is)
 
-returns : tie.Need-returns
+returns : tie.Need-returns-then-last-ne0
 returns c =
-    let c4 = c.before.before.before.before in
-    let c10 = c4.before.before.before.before.before.before in
-    let c16 = c10.before.before.before.before.before.before in
-    let a = c16.before.before.before.before.before in
-    let s = a.args.ticket.now in
-    let is = spans_read s c16.by_kind.ensures c10.spans_of.ensures.0 c10.spans_of.ensures.1 in
-    let no = c.before.if1.true in (
-      judged_refused s a.args.t2 a.requires.1 c10.spans_of.result is c4.tally.ensures.0 no c.refused.ensures.0,
+    let s = c.args.ticket.now in
+    let is = spans_read s c.by_kind-w.ensures c.spans_of-spans.ensures.0 c.spans_of-spans.ensures.1 in
+    let no = c.if-last-ne0.true in (
+      judged_refused s c.args.pins c.requires.1 c.spans_of-spans.result is c.tally-tally.ensures.0 no c.refused.ensures.0,
       λ z. absurd (no (ap (λ (x : Refusal). x.number) (sym c.refused.ensures.1) ∙ z)),
     )
 
 accepted-requires : tie.Need-accepted-requires
 accepted-requires c κs =
-    let c9 = c.before.before.before.before.before.before.before.before.before in
-    let c15 = c9.before.before.before.before.before.before in
-    c15.before.before.before.before.before.requires.0
+    c.requires.0
 
-returns-2 : tie.Need-returns-2
+returns-2 : tie.Need-returns
 returns-2 c =
-    let c4 = c.before.before.before.before in
-    let c10 = c4.before.before.before.before.before.before in
-    let c16 = c10.before.before.before.before.before.before in
-    let a = c16.before.before.before.before.before in
-    let s = a.args.ticket.now in
-    let is = spans_read s c16.by_kind.ensures c10.spans_of.ensures.0 c10.spans_of.ensures.1 in
+    let s = c.args.ticket.now in
+    let is = spans_read s c.by_kind-w.ensures c.spans_of-spans.ensures.0 c.spans_of-spans.ensures.1 in
     let made = c.accepted.ensures.0 in (
-      judged_accepted s a.args.t2 a.requires.1 c10.spans_of.result is c4.tally.ensures.0 c.before.if1.false
-          c4.tally.ensures.1 made,
-      λ z. spans_as (ap (λ (r : Reading). r.problem) made) c.accepted.ensures.1 (spans_any s 0 c4.tally.result.nets _ is),
+      judged_accepted s c.args.pins c.requires.1 c.spans_of-spans.result is c.tally-tally.ensures.0 c.if-last-ne0.false
+          c.tally-tally.ensures.1 made,
+      λ z. spans_as (ap (λ (r : Reading). r.problem) made) c.accepted.ensures.1 (spans_any s 0 c.tally-tally.result.nets _ is),
     )
 
 pub judged_spec : {M : Type 1} → statement M

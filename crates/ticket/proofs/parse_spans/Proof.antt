@@ -27,76 +27,67 @@ last e = e.east
 no_spans : {r : Parsed} {x : Refusal} → r.refusal ≡ x → x.number ≢ 0 → r.refusal.number ≡ 0 → SpansOf r.problem r.spans
 no_spans e n z = absurd (n (ap (λ (x : Refusal). x.number) (sym e) ∙ z))
 
-returns : tie.Need-returns
+returns : tie.Need-returns-then-head-ne0
 unfolding ticket_of
 returns c =
-    let no = c.before.if1.true in
-    (turned_down _ c.before.before.before.header.ensures no c.refused.ensures.0, no_spans c.refused.ensures.1 no)
+    let no = c.if-head-ne0.true in
+    (turned_down _ c.header-head.ensures no c.refused.ensures.0, no_spans c.refused.ensures.1 no)
 
-sides-requires : tie.Need-sides-requires
-sides-requires c κs = header_good c.before.before.before.before.args.ticket.now
-    (ap number (sym c.before.before.header.ensures) ∙ c.if1.false)
+sides-requires : tie.Need-sides-ends-requires
+sides-requires c κs = header_good c.args.ticket.now
+    (ap number (sym c.header-head.ensures) ∙ c.if-head-ne0.false)
 
-returns-2 : tie.Need-returns-2
+returns-2 : tie.Need-returns-then-end-ne0
 unfolding ticket_of
 returns-2 c =
-    let c4 = c.before.before.before.before in
-    let no = c.before.if2.true in (
-      turned_down _ (ap last c4.sides.ensures) no c.refused2.ensures.0
-          ∙ sym (going_on _ c4.before.before.before.header.ensures c4.before.if1.false),
-      no_spans c.refused2.ensures.1 no,
+    let no = c.if-end-ne0.true in (
+      turned_down _ (ap last c.sides-ends.ensures) no c.refused-then-end-ne0.ensures.0
+          ∙ sym (going_on _ c.header-head.ensures c.if-head-ne0.false),
+      no_spans c.refused-then-end-ne0.ensures.1 no,
     )
 
-returns-3 : tie.Need-returns-3
+returns-3 : tie.Need-returns-then-whole-ne0
 unfolding ticket_of
 returns-3 c =
-    let c7 = c.before.before.before.before.before.before.before in
-    let c10 = c7.before.before.before in
-    let s = c10.before.before.args.ticket.now in
-    let end = ap last c7.sides.ensures in
-    let no = c.before.if3.true in (
-      turned_down _ (c.before.before.before.left_over.ensures ∙ ap (λ (x : Cursor). left_over s x.at) end) no
-          c.refused3.ensures.0
-          ∙ sym (going_on _ c10.header.ensures c7.before.if1.false ∙ going_on _ end c.before.before.before.before.if2.false),
-      no_spans c.refused3.ensures.1 no,
+    let s = c.args.ticket.now in
+    let end = ap last c.sides-ends.ensures in
+    let no = c.if-whole-ne0.true in (
+      turned_down _ (c.left_over-whole.ensures ∙ ap (λ (x : Cursor). left_over s x.at) end) no
+          c.refused-then-whole-ne0.ensures.0
+          ∙ sym (going_on _ c.header-head.ensures c.if-head-ne0.false ∙ going_on _ end c.if-end-ne0.false),
+      no_spans c.refused-then-whole-ne0.ensures.1 no,
     )
 
 -- the header is good, and each side was read
-read : (c : tie.Else3) → let c6 = c.before.before.before.before.before.before in
-    let s = c6.before.before.before.before.before.args.ticket.now in
-    ((header_of s).refusal.number ≡ 0) × (c6.sides.result.east.refusal.number ≡ 0)
+read : (c : tie.Else-whole-ne0) →
+    let s = c.args.ticket.now in
+    ((header_of s).refusal.number ≡ 0) × (c.sides-ends.result.east.refusal.number ≡ 0)
 read c =
-    let c7 = c.before.before.before.before.before.before.before in
-    (ap number (sym c7.before.before.header.ensures) ∙ c7.if1.false, c.before.before.before.if2.false)
+    (ap number (sym c.header-head.ensures) ∙ c.if-head-ne0.false, c.if-end-ne0.false)
 
-pins-at-requires : tie.Need-pins-at-requires
+pins-at-requires : tie.Need-pins_at-requires
 pins-at-requires c κs =
-    let c6 = c.before.before.before.before.before.before in
-    let s = c6.before.before.before.before.before.args.ticket.now in
+    let s = c.args.ticket.now in
     let h = header_good s (read c).0 in
-    (h, sides_extents s h c6.sides.ensures (read c).1)
+    (h, sides_extents s h c.sides-ends.ensures (read c).1)
 
 judged-requires : tie.Need-judged-requires
 judged-requires c κs =
-    let c7 = c.before.before.before.before.before.before.before in
-    let s = c7.before.before.before.before.before.args.ticket.now in
+    let s = c.args.ticket.now in
     let good = (read c.before).0 in
-    let whole = ap (λ (e : Ends). number (last e)) (sym c7.sides.ensures) ∙ (read c.before).1 in
-    let found = c.pins_at.ensures ∙ ap (pins_at s) c7.sides.ensures in
+    let whole = ap (λ (e : Ends). number (last e)) (sym c.sides-ends.ensures) ∙ (read c.before).1 in
+    let found = c.pins_at.ensures ∙ ap (pins_at s) c.sides-ends.ensures in
     (header_good s good, subst (Sited s) (sym found) (sited s (header_fields s good) (header_map s good) whole))
 
-returns-4 : tie.Need-returns-4
+returns-4 : tie.Need-returns
 unfolding ticket_of
 returns-4 c =
-    let c4 = c.before.before.before.before in
-    let c8 = c4.before.before.before.before in
-    let c11 = c8.before.before.before in
-    let s = c11.before.before.args.ticket.now in
-    let end = ap last c8.sides.ensures in
-    let found = c.before.pins_at.ensures ∙ ap (pins_at s) c8.sides.ensures in (
+    let s = c.args.ticket.now in
+    let end = ap last c.sides-ends.ensures in
+    let found = c.pins_at.ensures ∙ ap (pins_at s) c.sides-ends.ensures in (
       c.judged.ensures.0 ∙ ap (judged s) found
-          ∙ sym (going_on _ c11.header.ensures c8.before.if1.false ∙ going_on _ end c4.before.if2.false
-          ∙ going_on _ (c4.left_over.ensures ∙ ap (λ (x : Cursor). left_over s x.at) end) c.before.before.if3.false),
+          ∙ sym (going_on _ c.header-head.ensures c.if-head-ne0.false ∙ going_on _ end c.if-end-ne0.false
+          ∙ going_on _ (c.left_over-whole.ensures ∙ ap (λ (x : Cursor). left_over s x.at) end) c.if-whole-ne0.false),
       c.judged.ensures.1,
     )
 

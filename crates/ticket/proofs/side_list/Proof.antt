@@ -13,57 +13,54 @@ use Rattle.ticket.proofs.Filled.{filled_none, filled_end}
 use Rattle.ticket.proofs.side_list.Statement.{statement}
 use Rattle.ticket.proofs.side_list.Tie as tie
 
-returns : tie.Need-returns
+returns : tie.Need-returns-then-not-stands
 unfolding side_nets
 returns c =
-    let a = c.before.before.args in
-    let off = not-true a.stands c.if1.true in
+    let a = c.args in
+    let off = c.if-not-stands.true in
     filled_end (pin_net a.ticket.now a.stands a.at a.places) 90 0 _
     (λ k h. ap (λ (b : Bool). pin_net a.ticket.now b a.at a.places k) off ∙ pin_off _ _ _ _) (filled_none _ 90)
 
-add-from-2 : tie.Need-overflow-add-from-2
-add-from-2 c = omega (arith, c.before.before.requires.1.start, c.before.before.requires.1.size)
+add-from-2 : tie.Need-overflow_add-from-2
+add-from-2 c = omega (arith, c.requires.1.start, c.requires.1.size)
 
 -- the side stands: it ends past its map and its nets
-end : (c : tie.Else1) → let a = c.before.before.args in
+end : (c : tie.Else-not-stands) → let a = c.args in
     a.end ≡ a.at + map_bytes a.places + standing_bits a.ticket.now a.at a.places
-end c = c.before.before.requires.1.stands (not-false c.before.before.args.stands c.if1.false)
+end c = c.requires.1.stands (c.if-not-stands.false)
 
-sub-count : tie.Need-overflow-sub-count
+sub-count : tie.Need-overflow_sub-count
 sub-count c = omega (arith, end c)
 
-net-list-requires : tie.Need-net-list-requires
+net-list-requires : tie.Need-net_list-nets-requires
 net-list-requires c κs =
-    let a = c.before.before.args in
-    let h = c.before.before.requires in
+    let a = c.args in
+    let h = c.requires in
     (omega (arith, h.0, end c, standing_le a.ticket.now a.at a.places), omega (arith, h.1.size, end c))
 
-returns-2 : tie.Need-returns-2
+returns-2 : tie.Need-returns-then-count-places
 returns-2 c =
-    let c2 = c.before.before in
-    let a = c2.before.before.args in
+    let a = c.args in
     let s = a.ticket.now in
     let from = a.at + map_bytes a.places in
-    let full : a.end - from ≡ a.places = omega (arith, c.if2.true) in
-    c.before.net_list.ensures ∙ ap (net_list s from) full ∙ full_list s a.at a.places (omega (arith, full, end c2))
-    ∙ ap (λ (b : Bool). side_nets s b a.at a.places) (sym (not-false a.stands c2.if1.false))
+    let full : a.end - from ≡ a.places = omega (arith, c.if-count-places.true) in
+    c.net_list-nets.ensures ∙ ap (net_list s from) full ∙ full_list s a.at a.places (omega (arith, full, end c.before.before))
+    ∙ ap (λ (b : Bool). side_nets s b a.at a.places) (sym (c.if-not-stands.false))
 
-side-nets-requires : tie.Need-side-nets-requires
+side-nets-requires : tie.Need-side_nets-requires
 side-nets-requires c κs =
-    let c2 = c.before.before in
-    let a = c2.before.before.args in
-    let h = c2.before.before.requires in
+    let a = c.args in
+    let h = c.requires in
     let s = a.ticket.now in
     let from = a.at + map_bytes a.places in
-    let all : a.end - from ≡ standing_bits s a.at a.places = omega (arith, end c2) in
-    ((h.0, omega (arith, h.1.size, end c2)), c.before.net_list.ensures ∙ ap (net_list s from) all)
+    let all : a.end - from ≡ standing_bits s a.at a.places = omega (arith, end c.before.before) in
+    ((h.0, omega (arith, h.1.size, end c.before.before)), c.net_list-nets.ensures ∙ ap (net_list s from) all)
 
-returns-3 : tie.Need-returns-3
+returns-3 : tie.Need-returns
 returns-3 c =
-    let c3 = c.before.before.before in
-    let a = c3.before.before.args in
+    let a = c.args in
     c.side_nets.ensures
-    ∙ ap (λ (b : Bool). side_nets a.ticket.now b a.at a.places) (sym (not-false a.stands c3.if1.false))
+    ∙ ap (λ (b : Bool). side_nets a.ticket.now b a.at a.places) (sym (c.if-not-stands.false))
 
 pub side_list_spec : {M : Type 1} → statement M
 side_list_spec =

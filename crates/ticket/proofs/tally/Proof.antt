@@ -6,7 +6,7 @@ use Rattle.ticket.proofs.tally.Statement.{statement}
 use Rattle.ticket.proofs.tally.Tie as tie
 
 returns : tie.Need-returns
-returns c = (c.before.no_lone.ensures ∙ ap no_lone c.before.before.lone_net.ensures, c.net_count.ensures)
+returns c = (c.no_lone-last.ensures ∙ ap no_lone c.lone_net.ensures, c.net_count-nets.ensures)
 
 pub tally_spec : {M : Type 1} → statement M
 tally_spec = tie.close (tie.spec (λ c κs. search rules) (λ c κs. search rules) (λ c κs. search rules) returns)

@@ -6,10 +6,10 @@ use Rattle.ticket_sides.proofs.Bits.{spare}
 use Rattle.ticket_sides.proofs.has_spare.Statement.{statement}
 use Rattle.ticket_sides.proofs.has_spare.Tie as tie
 
-cast-zeros : tie.Need-overflow-cast-zeros
+cast-zeros : tie.Need-overflow_cast-zeros
 cast-zeros c = omega (arith, leading_le 8 c.args.last)
 
-add-result : tie.Need-overflow-add-result
+add-result : tie.Need-overflow_add-result
 add-result c = omega (arith, leading_le 8 c.args.last)
 
 returns : tie.Need-returns

@@ -6,8 +6,8 @@ use Rattle.ticket_sides.proofs.Laws.{at_going}
 use Rattle.ticket_sides.proofs.net_bytes.Statement.{statement}
 use Rattle.ticket_sides.proofs.net_bytes.Tie as tie
 
-returns-2 : tie.Need-returns-2
-returns-2 c = (c.go_on.ensures ∙ sym (c.before.before.all_nets.ensures c.before.if2.true), omega (arith, at_going c.go_on.ensures))
+returns-2 : tie.Need-returns-then-all_nets
+returns-2 c = (c.go_on.ensures ∙ sym (c.before.before.all_nets.ensures c.before.if-all_nets.true), omega (arith, at_going c.go_on.ensures))
 
 pub net_bytes_spec : {M : Type 1} → statement M
 net_bytes_spec =

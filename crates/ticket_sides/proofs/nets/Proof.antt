@@ -10,41 +10,41 @@ use Rattle.ticket_sides.specs.Stages.{nets_of}
 use Rattle.ticket_sides.proofs.nets.Statement.{statement}
 use Rattle.ticket_sides.proofs.nets.Tie as tie
 
-abbrev invariant-loop : tie.invariant-loop
+abbrev invariant-loop : tie.invariant-loop-left
 invariant-loop ticket least from count at₀ left₀ at left = (nets_of least ticket from count ≡ nets_of least ticket at left) × (at ≤ length ticket)
 
-abbrev decreases-loop : tie.decreases-loop
+abbrev decreases-loop : tie.decreases-loop-left
 decreases-loop ticket least from count at₀ left₀ at left = left
 
-loop-holds : tie.Need-loop-init invariant-loop decreases-loop
+loop-holds : tie.Need-loop-left-init invariant-loop decreases-loop
 loop-holds c = (refl, omega arith)
 
-returns : tie.Need-returns invariant-loop decreases-loop
+returns : tie.Need-returns-then-ticket-at invariant-loop decreases-loop
 returns c = (
-  c.stop.ensures ∙ sym (c.before.before.before.loop.invariant.0 ∙ nets_missing _ _ _ _ c.before.before.loop-test.true
-      c.before.if1.true),
+  c.stop.ensures ∙ sym (c.before.before.before.loop-left.invariant.0 ∙ nets_missing _ _ _ _ c.before.before.loop-left-test.true
+      c.before.if-ticket-at.true),
   omega (arith, at_refused c.stop.ensures),
 )
 
-returns-2 : tie.Need-returns-2 invariant-loop decreases-loop
+returns-2 : tie.Need-returns-then-not-is_net invariant-loop decreases-loop
 returns-2 c =
     let c4 = c.before.before.before.before in (
-      c.stop2.ensures ∙ sym (c4.before.before.loop.invariant.0 ∙ nets_bad _ _ _ _ c4.before.loop-test.true c4.if1.false
-          (failed c.before.before.is_net.ensures c.before.if2.true)),
-      omega (arith, at_refused c.stop2.ensures),
+      c.stop-then-not-is_net.ensures ∙ sym (c4.before.before.loop-left.invariant.0 ∙ nets_bad _ _ _ _ c4.before.loop-left-test.true c4.if-ticket-at.false
+          (failed c.before.before.is_net.ensures c.before.if-not-is_net.true)),
+      omega (arith, at_refused c.stop-then-not-is_net.ensures),
     )
 
-loop-again : tie.Need-loop-preserved invariant-loop decreases-loop
+loop-again : tie.Need-loop-left-preserved invariant-loop decreases-loop
 loop-again c =
     let c3 = c.before.before.before in (
-      c3.before.before.loop.invariant.0 ∙ nets_more _ _ _ _ c3.before.loop-test.true c3.if1.false
-          (passed c.before.is_net.ensures c.if2.false),
+      c3.before.before.loop-left.invariant.0 ∙ nets_more _ _ _ _ c3.before.loop-left-test.true c3.if-ticket-at.false
+          (passed c.before.is_net.ensures c.if-not-is_net.false),
       omega arith,
     )
 
-returns-3 : tie.Need-returns-3 invariant-loop decreases-loop
+returns-3 : tie.Need-returns invariant-loop decreases-loop
 returns-3 c = (
-  c.go_on.ensures ∙ sym (c.before.before.loop.invariant.0 ∙ nets_end _ _ _ _ c.before.loop-test.false),
+  c.go_on.ensures ∙ sym (c.before.before.loop-left.invariant.0 ∙ nets_end _ _ _ _ c.before.loop-left-test.false),
   omega (arith, at_going c.go_on.ensures),
 )
 

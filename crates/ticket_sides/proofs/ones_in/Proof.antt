@@ -10,38 +10,38 @@ use Rattle.ticket_sides.specs.Format.{byte, standing_bits}
 use Rattle.ticket_sides.proofs.ones_in.Statement.{statement}
 use Rattle.ticket_sides.proofs.ones_in.Tie as tie
 
-abbrev invariant-loop : tie.invariant-loop
+abbrev invariant-loop : tie.invariant-loop-j
 invariant-loop ticket at bytes total₀ j₀ total j = (j ≤ bytes) × (total ≡ standing_bits ticket at (8 * j))
 
-abbrev decreases-loop : tie.decreases-loop
+abbrev decreases-loop : tie.decreases-loop-j
 decreases-loop ticket at bytes total₀ j₀ total j = bytes - j
 
-loop-holds : tie.Need-loop-init invariant-loop decreases-loop
+loop-holds : tie.Need-loop-j-init invariant-loop decreases-loop
 loop-holds c = (omega arith, sym (sum_none _))
 
-cast-total : tie.Need-overflow-cast-total invariant-loop decreases-loop
-cast-total c = let h = (c.shared-slice-known.given (c.before.before.before.args.at + c.before.before.loop.j)).fits in omega (arith, ones-le 8 _ h)
+cast-total : tie.Need-overflow_cast-total invariant-loop decreases-loop
+cast-total c = let h = (c.shared_slice_known-1.given (c.before.before.before.args.at + c.before.before.loop-j.j)).fits in omega (arith, ones-le 8 _ h)
 
-add-total-2 : tie.Need-overflow-add-total-2 invariant-loop decreases-loop
+add-total-2 : tie.Need-overflow_add-total-in-loop-j invariant-loop decreases-loop
 add-total-2 c =
     let s = c.before.before.before.args.ticket.now in
     let a = c.before.before.before.args.at in
-    let h = (c.shared-slice-known.given (a + c.before.before.loop.j)).fits in
-    omega (arith, ones-le 8 _ h, standing_le s a (8 * c.before.before.loop.j))
+    let h = (c.shared_slice_known-1.given (a + c.before.before.loop-j.j)).fits in
+    omega (arith, ones-le 8 _ h, standing_le s a (8 * c.before.before.loop-j.j))
 
-loop-again : tie.Need-loop-preserved invariant-loop decreases-loop
+loop-again : tie.Need-loop-j-preserved invariant-loop decreases-loop
 loop-again c =
     let s = c.before.before.before.args.ticket.now in
     let a = c.before.before.before.args.at in
-    let l = c.before.before.loop in
-    let h = (c.shared-slice-known.given (a + l.j)).fits in
+    let l = c.before.before.loop-j in
+    let h = (c.shared_slice_known-1.given (a + l.j)).fits in
     (omega arith, ap (λ (x : ℕ). x + ones (byte s (a + l.j))) l.invariant.1 ∙ sym (standing_ones s a l.j h))
 
 returns : tie.Need-returns invariant-loop decreases-loop
 returns c =
     let a = c.before.before.args in
-    let e : c.before.loop.j ≡ a.bytes = omega arith in
-    c.before.loop.invariant.1 ∙ ap (λ (x : ℕ). standing_bits a.ticket.now a.at (8 * x)) e
+    let e : c.before.loop-j.j ≡ a.bytes = omega arith in
+    c.before.loop-j.invariant.1 ∙ ap (λ (x : ℕ). standing_bits a.ticket.now a.at (8 * x)) e
 
 pub ones_in_spec : {M : Type 1} → statement M
 ones_in_spec =

@@ -12,38 +12,38 @@ use Rattle.ticket_sides.specs.Format.{map_bytes}
 use Rattle.ticket_sides.proofs.side.Statement.{statement}
 use Rattle.ticket_sides.proofs.side.Tie as tie
 
-returns : tie.Need-returns
+returns : tie.Need-returns-then-ticket-at
 unfolding side_of
 returns c =
     let a = c.before.before.before.args in
     let short = lt-leb (a.at + map_bytes a.places) (length a.ticket.now) (omega arith) in
     (simp short c.stop.ensures, omega (arith, at_refused c.stop.ensures))
 
-returns-2 : tie.Need-returns-2
+returns-2 : tie.Need-returns-then-count-eq0
 unfolding side_of
 returns-2 c =
     let a = c.before.before.before.before.before.args in
     let s = a.ticket.now in
     let fits = le-leb (a.at + map_bytes a.places) (length s) (omega arith) in
-    let bad = count_bad s a.at a.places (sym c.before.before.map_count.ensures ∙ c.before.if2.true) in
-    (simp (fits, bad) c.stop2.ensures, omega (arith, at_refused c.stop2.ensures))
+    let bad = count_bad s a.at a.places (sym c.before.before.map_count-count.ensures ∙ c.before.if-count-eq0.true) in
+    (simp (fits, bad) c.stop-then-count-eq0.ensures, omega (arith, at_refused c.stop-then-count-eq0.ensures))
 
-net-bytes-requires : tie.Need-net-bytes-requires
+net-bytes-requires : tie.Need-net_bytes-requires
 net-bytes-requires c κs =
     let a = c.before.before.before.before.args in
     let s = a.ticket.now in
-    let k = c.before.map_count.ensures in
-    let good = count_good s a.at a.places (λ q. c.if2.false (k ∙ q)) in
+    let k = c.before.map_count-count.ensures in
+    let good = count_good s a.at a.places (λ q. c.if-count-eq0.false (k ∙ q)) in
     omega arith
 
-returns-3 : tie.Need-returns-3
+returns-3 : tie.Need-returns
 unfolding side_of
 returns-3 c =
     let a = c.before.before.before.before.before.args in
     let s = a.ticket.now in
     let fits = le-leb (a.at + map_bytes a.places) (length s) (omega arith) in
-    let k = c.before.before.map_count.ensures in
-    let good = count_good s a.at a.places (λ q. c.before.if2.false (k ∙ q)) in
+    let k = c.before.before.map_count-count.ensures in
+    let good = count_good s a.at a.places (λ q. c.before.if-count-eq0.false (k ∙ q)) in
     let nets = c.net_bytes.ensures in
     (simp (fits, good.0) (nets.0 ∙ ap (nets_of 1 s (a.at + map_bytes a.places)) (k ∙ good.1)), nets.1)
 

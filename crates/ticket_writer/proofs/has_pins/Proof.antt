@@ -12,27 +12,27 @@ use Rattle.grid.proofs.Entries.{entry_next}
 use Rattle.ticket_writer.proofs.has_pins.Statement.{statement}
 use Rattle.ticket_writer.proofs.has_pins.Tie as tie
 
-abbrev invariant-loop : tie.invariant-loop
+abbrev invariant-loop : tie.invariant-loop-i
 invariant-loop nets places found₀ i₀ found i = (i ≤ places) × (found ≡ some (is_filled (entry nets)) i)
 
-abbrev decreases-loop : tie.decreases-loop
+abbrev decreases-loop : tie.decreases-loop-i
 decreases-loop nets places found₀ i₀ found i = places - i
 
-loop-holds : tie.Need-loop-init invariant-loop decreases-loop
+loop-holds : tie.Need-loop-i-init invariant-loop decreases-loop
 loop-holds c = (omega arith, sym (some_none_yet _))
 
-loop-again : tie.Need-loop-preserved invariant-loop decreases-loop
+loop-again : tie.Need-loop-i-preserved invariant-loop decreases-loop
 loop-again c =
-    let l = c.before.before.before.loop in
-    let nets = c.before.before.before.before.args.nets.now in
+    let l = c.loop-i in
+    let nets = c.args.nets.now in
     let here = ap (leb 1) (sym (entry_next nets l.i)) in
-    (omega arith, some_more (is_filled (entry nets)) l.i _ _ _ l.invariant.1 here c.either.ensures)
+    (omega arith, some_more (is_filled (entry nets)) l.i _ _ _ l.invariant.1 here c.either-found.ensures)
 
 returns : tie.Need-returns invariant-loop decreases-loop
 unfolding has_pins
 returns c =
-    let l = c.before.loop in
-    let e : l.i ≡ c.before.before.args.places = omega arith in
+    let l = c.loop-i in
+    let e : l.i ≡ c.args.places = omega arith in
     l.invariant.1 ∙ ap (some _) e
 
 pub has_pins_spec : {M : Type 1} → statement M

@@ -6,9 +6,8 @@ use Rattle.ticket_writer.proofs.header.Tie as tie
 
 returns : tie.Need-returns
 returns c =
-    let p1 = c.before.before.before in
-    says_adds (says_adds (says_adds (says_adds p1.before.blank.ensures p1.put.ensures) c.before.before.put2.ensures)
-    c.before.put3.ensures) c.put4.ensures
+    says_adds (says_adds (says_adds (says_adds c.blank.ensures c.put.ensures) c.put-2.ensures)
+    c.put-3.ensures) c.put-4.ensures
 
 pub header_spec : {M : Type 1} → statement M
 header_spec =

@@ -9,12 +9,12 @@ use Rattle.grid.proofs.Entries.{entry_next}
 use Rattle.ticket_writer.proofs.is_filled.Statement.{statement}
 use Rattle.ticket_writer.proofs.is_filled.Tie as tie
 
-returns : tie.Need-returns
-returns c = let a = c.before.args in rw (lt-leb (a.i + 1) a.places (omega arith))
+returns : tie.Need-returns-then-places-i
+returns c = let a = c.args in rw (lt-leb (a.i + 1) a.places (omega arith))
 
-returns-2 : tie.Need-returns-2
+returns-2 : tie.Need-returns
 returns-2 c =
-    let a = c.before.before.args in
+    let a = c.args in
     rw (le-leb (a.i + 1) a.places (omega arith)) (ap (leb 1) (sym (entry_next a.nets.now a.i)))
 
 pub is_filled_spec : {M : Type 1} → statement M

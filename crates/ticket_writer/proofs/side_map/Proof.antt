@@ -14,13 +14,10 @@ value power e f = f ∙ ap (λ (b : Bool). bit b * power) e
 
 returns : tie.Need-returns
 returns c =
-    let c2 = c.before.before in
-    let c4 = c2.before.before in
-    let c6 = c4.before.before in
-    let n = value 1 c6.before.has_pins.ensures c6.value_of_lem.ensures.0 in
-    let s = value 2 c4.before.has_pins2.ensures c4.value_of2.ensures.0 in
-    let w = value 4 c2.before.has_pins3.ensures c2.value_of3.ensures.0 in
-    let e = value 8 c.before.has_pins4.ensures c.value_of4.ensures.0 in
+    let n = value 1 c.has_pins.ensures c.value_of.ensures.0 in
+    let s = value 2 c.has_pins-2.ensures c.value_of-2.ensures.0 in
+    let w = value 4 c.has_pins-3.ensures c.value_of-3.ensures.0 in
+    let e = value 8 c.has_pins-4.ensures c.value_of-4.ensures.0 in
     omega (arith, n, s, w, e)
 
 pub side_map_spec : {M : Type 1} → statement M

@@ -8,32 +8,24 @@ use Rattle.ticket_writer.proofs.Laws.{says_ticket}
 use Rattle.ticket_writer.proofs.ticket_of.Statement.{statement}
 use Rattle.ticket_writer.proofs.ticket_of.Tie as tie
 
-side-map-requires : tie.Need-side-map-requires
+side-map-requires : tie.Need-side_map-sides-requires
 side-map-requires c κs =
-    let c5 = c.before.before.before.before.before in
-    let c9 = c5.before.before.before.before in
-    let broad = c5.by_kind.ensures ∙ ap (λ (v : ℕ). by_kind c9.args.t1.kind 1 1 1 v 1) c5.before.wide.ensures in
-    (omega (arith, c5.before.before.column_count.ensures, c9.requires.0), omega (arith, broad, c9.requires.1))
+    let broad = c.by_kind-w.ensures ∙ ap (λ (v : ℕ). by_kind c.args.q.kind 1 1 1 v 1) c.wide.ensures in
+    (omega (arith, c.column_count-n.ensures, c.requires.0), omega (arith, broad, c.requires.1))
 
-with-sides-requires : tie.Need-with-sides-requires
+with-sides-requires : tie.Need-with_sides-requires
 with-sides-requires c κs =
-    let c5 = c.before.before.before.before.before in
-    let c12 = c5.before.before.before.before.before.before.before in
-    let c16 = c12.before.before.before.before in
-    let broad = c12.by_kind.ensures ∙ ap (λ (v : ℕ). by_kind c16.args.t1.kind 1 1 1 v 1) c12.before.wide.ensures in (
-      omega (arith, c12.before.before.column_count.ensures, c16.requires.0),
-      omega (arith, broad, c16.requires.1),
-      c5.header.ensures.size,
+    let broad = c.by_kind-w.ensures ∙ ap (λ (v : ℕ). by_kind c.args.q.kind 1 1 1 v 1) c.wide.ensures in (
+      omega (arith, c.column_count-n.ensures, c.requires.0),
+      omega (arith, broad, c.requires.1),
+      c.header-out.ensures.size,
     )
 
 returns : tie.Need-returns
 returns c =
-    let c6 = c.before.before.before.before.before.before in
-    let c13 = c6.before.before.before.before.before.before.before in
-    let c17 = c13.before.before.before.before in
-    let q = c17.args.t1 in
-    let broad = c13.by_kind.ensures ∙ ap (λ (v : ℕ). by_kind q.kind 1 1 1 v 1) c13.before.wide.ensures in (
-      says_ticket q c13.before.before.column_count.ensures broad c6.before.side_map.ensures c6.header.ensures
+    let q = c.args.q in
+    let broad = c.by_kind-w.ensures ∙ ap (λ (v : ℕ). by_kind q.kind 1 1 1 v 1) c.wide.ensures in (
+      says_ticket q c.column_count-n.ensures broad c.side_map-sides.ensures c.header-out.ensures
           c.with_sides.ensures.0,
       c.with_sides.ensures.1,
     )

@@ -14,24 +14,24 @@ use Rattle.ticket_bytes.specs.Bytes.{map_byte}
 use Rattle.ticket_writer.proofs.with_map.Statement.{statement}
 use Rattle.ticket_writer.proofs.with_map.Tie as tie
 
-abbrev invariant-loop : tie.invariant-loop
+abbrev invariant-loop : tie.invariant-loop-j
 invariant-loop nets places bytes₀ used₀ size j₀ bytes used j =
     (j ≤ size) × (used ≡ used₀ + j) × (length bytes ≡ most_output) × Adds (record { bytes = bytes₀; used = used₀ })
     (values_from (map_byte (entry nets) places) 0 j) (record { bytes = bytes; used = used })
 
-abbrev decreases-loop : tie.decreases-loop
+abbrev decreases-loop : tie.decreases-loop-j
 decreases-loop nets places bytes₀ used₀ size j₀ bytes used j = size - j
 
-loop-holds : tie.Need-loop-init invariant-loop decreases-loop
+loop-holds : tie.Need-loop-j-init invariant-loop decreases-loop
 loop-holds c = (omega arith, omega arith, search rules, adds_as (sym (values_none _ _)) (adds_none _))
 
-array-write-bytes : tie.Need-array-write-bytes invariant-loop decreases-loop
-array-write-bytes c = let l = c.before.before.loop in omega (arith, l.invariant.1, l.invariant.2)
+array-write-bytes : tie.Need-bounds-bytes-used invariant-loop decreases-loop
+array-write-bytes c = let l = c.loop-j in omega (arith, l.invariant.1, l.invariant.2)
 
-loop-again : tie.Need-loop-preserved invariant-loop decreases-loop
+loop-again : tie.Need-loop-j-preserved invariant-loop decreases-loop
 loop-again c =
-    let l = c.before.before.loop in
-    let a = c.before.before.before.before.args in
+    let l = c.loop-j in
+    let a = c.args in
     let f = map_byte (entry a.nets.now) a.places in (
       omega arith,
       omega (arith, l.invariant.1),
@@ -42,8 +42,8 @@ loop-again c =
 
 returns : tie.Need-returns invariant-loop decreases-loop
 returns c =
-    let l = c.before.loop in
-    let e : l.j ≡ map_bytes c.before.before.before.args.places = omega arith in
+    let l = c.loop-j in
+    let e : l.j ≡ map_bytes c.args.places = omega arith in
     rw e at l.invariant.3
 
 pub with_map_spec : {M : Type 1} → statement M

@@ -12,22 +12,22 @@ use Rattle.ticket.proofs.Filled.{length_values}
 use Rattle.ticket_writer.proofs.with_side.Statement.{statement}
 use Rattle.ticket_writer.proofs.with_side.Tie as tie
 
-returns : tie.Need-returns
+returns : tie.Need-returns-then-not-has_pins
 returns c =
-    let a = c.before.before.args in
-    let lacks = failed c.before.has_pins.ensures c.if1.true in
+    let a = c.args in
+    let lacks = failed c.has_pins.ensures c.if-not-has_pins.true in
     (adds_as (sym (side_missing (entry a.nets.now) a.places lacks)) (adds_none _), omega arith)
 
-with-nets-requires : tie.Need-with-nets-requires
+with-nets-requires : tie.Need-with_nets-requires
 with-nets-requires c κs =
-    let a = c.before.before.before.args in
+    let a = c.args in
     omega (arith, c.with_map.ensures.size, length_values (map_byte (entry a.nets.now) a.places) 0 (map_bytes a.places))
 
-returns-2 : tie.Need-returns-2
+returns-2 : tie.Need-returns
 returns-2 c =
-    let a = c.before.before.before.before.args in
-    let stands = passed c.before.before.before.has_pins.ensures c.before.before.if1.false in
-    let map = c.before.with_map.ensures in
+    let a = c.args in
+    let stands = passed c.has_pins.ensures c.if-not-has_pins.false in
+    let map = c.with_map.ensures in
     let size = length_values (map_byte (entry a.nets.now) a.places) 0 (map_bytes a.places) in (
       adds_as (sym (side_standing (entry a.nets.now) a.places stands)) (adds_adds map c.with_nets.ensures.0),
       omega (arith, c.with_nets.ensures.1, map.size, size),

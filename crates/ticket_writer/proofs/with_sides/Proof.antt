@@ -7,10 +7,10 @@ use Rattle.ticket_writer.proofs.with_sides.Tie as tie
 
 returns : tie.Need-returns
 returns c =
-    let s1 = c.before.before.before.with_side.ensures in
-    let s2 = c.before.before.with_side2.ensures in
-    let s3 = c.before.with_side3.ensures in
-    let s4 = c.with_side4.ensures in (
+    let s1 = c.with_side-out.ensures in
+    let s2 = c.with_side-out-2.ensures in
+    let s3 = c.with_side-out-3.ensures in
+    let s4 = c.with_side.ensures in (
       λ l said. says_adds (says_adds (says_adds (says_adds said s1.0) s2.0) s3.0) s4.0,
       omega (arith, s1.1, s2.1, s3.1, s4.1),
     )

@@ -9,20 +9,20 @@ use Rattle.trunks.proofs.Steps.{free_here, free_on, free_none}
 use Rattle.trunks.proofs.first_free.Statement.{statement}
 use Rattle.trunks.proofs.first_free.Tie as tie
 
-abbrev invariant-loop : tie.invariant-loop
+abbrev invariant-loop : tie.invariant-loop-i
 invariant-loop lasts left i₀ i = (i ≤ length lasts) × (first_free lasts left ≡ i + first_free (drop i lasts) left)
 
-abbrev decreases-loop : tie.decreases-loop
+abbrev decreases-loop : tie.decreases-loop-i
 decreases-loop lasts left i₀ i = length lasts - i
 
-returns : tie.Need-returns invariant-loop decreases-loop
-returns c = free_here _ _ _ c.before.before.before.loop.invariant.1 c.before.before.loop-test.true c.if1.true
+returns : tie.Need-returns-then-lasts-i invariant-loop decreases-loop
+returns c = free_here _ _ _ c.loop-i.invariant.1 c.loop-i-test.true c.if-lasts-i.true
 
-loop-again : tie.Need-loop-preserved invariant-loop decreases-loop
-loop-again c = (search rules, free_on _ _ _ c.before.before.before.loop.invariant.1 c.before.before.loop-test.true c.if1.false)
+loop-again : tie.Need-loop-i-preserved invariant-loop decreases-loop
+loop-again c = (search rules, free_on _ _ _ c.loop-i.invariant.1 c.loop-i-test.true c.if-lasts-i.false)
 
-returns-2 : tie.Need-returns-2 invariant-loop decreases-loop
-returns-2 c = free_none _ _ _ c.before.loop.invariant.1 c.loop-test.false
+returns-2 : tie.Need-returns invariant-loop decreases-loop
+returns-2 c = free_none _ _ _ c.loop-i.invariant.1 c.loop-i-test.false
 
 pub first_free_spec : {M : Type 1} → statement M
 first_free_spec =

@@ -5,11 +5,11 @@ use borrow.Author.Rules.{rules}
 use Rattle.trunks.proofs.pin_at.Statement.{statement}
 use Rattle.trunks.proofs.pin_at.Tie as tie
 
-returns : tie.Need-returns
-returns c = rw (eq-eqb (c.before.before.args.q % 2) 0 c.before.if1.true)
+returns : tie.Need-returns-then-q-eq0
+returns c = rw (eq-eqb (c.args.q % 2) 0 c.if-q-eq0.true)
 
-returns-2 : tie.Need-returns-2
-returns-2 c = rw (ne_eqb (c.before.before.args.q % 2) 0 c.before.if1.false)
+returns-2 : tie.Need-returns
+returns-2 c = rw (ne_eqb (c.args.q % 2) 0 c.if-q-eq0.false)
 
 pub pin_at_spec : {M : Type 1} → statement M
 pin_at_spec =

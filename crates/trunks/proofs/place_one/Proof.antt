@@ -4,7 +4,7 @@ use Rattle.trunks.proofs.place_one.Statement.{statement}
 use Rattle.trunks.proofs.place_one.Tie as tie
 
 returns : tie.Need-returns
-returns c = rw c.before.first_free.ensures
+returns c = rw c.first_free-at.ensures
 
 pub place_one_spec : {M : Type 1} → statement M
 place_one_spec =

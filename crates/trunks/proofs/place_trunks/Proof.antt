@@ -5,27 +5,27 @@ use Rattle.trunks.proofs.Promise.{packable, promised}
 use Rattle.trunks.proofs.place_trunks.Statement.{statement}
 use Rattle.trunks.proofs.place_trunks.Tie as tie
 
-list-spans-requires : tie.Need-list-spans-requires
-list-spans-requires c κs = rw c.column_count.ensures c.before.requires
+list-spans-requires : tie.Need-list_spans-list-requires
+list-spans-requires c κs = rw c.column_count-columns.ensures c.requires
 
-pack-requires : tie.Need-pack-requires
+pack-requires : tie.Need-pack-packing-requires
 pack-requires c κs =
-    let l = c.before.list_spans.ensures in
-    let c2 = c.before.before in
-    let c3 = c2.before in (
+    let l = c.list_spans-list.ensures in
+    let c2 = c in
+    let c3 = c2 in (
       l.0,
       packable _ _ _ c3.requires.1 c3.requires.2 c3.requires.3 c3.args.norths.now c3.args.souths.now _ (short _ _ l.0)
-          (rw c2.column_count.ensures at l.1),
+          (rw c2.column_count-columns.ensures at l.1),
     )
 
 returns : tie.Need-returns
 returns c =
-    let c4 = c.before.before.before.before in
-    let l = c.before.before.before.list_spans.ensures in
-    let c5 = c4.before in
-    rw c.before.pack.ensures
+    let c4 = c in
+    let l = c.list_spans-list.ensures in
+    let c5 = c4 in
+    rw c.pack-packing.ensures
     (promised _ _ _ c5.requires.1 c5.requires.2 c5.requires.3 c5.args.norths.now c5.args.souths.now _ (short _ _ l.0)
-    (rw c4.column_count.ensures at l.1))
+    (rw c4.column_count-columns.ensures at l.1))
 
 pub place_trunks_spec : {M : Type 1} → statement M
 place_trunks_spec = tie.close (tie.spec (λ c κs. search rules) list-spans-requires pack-requires returns)

@@ -5,10 +5,10 @@ use Rattle.trunks.proofs.starts.Tie as tie
 
 returns : tie.Need-returns
 returns c =
-    let c2 = c.before.before in
-    let c3 = c2.before in
-    let c5 = c3.before.before in
-    rw (c.both2.ensures, c.before.both.ensures, c2.either.ensures, c3.wide3.ensures, c5.wide2.ensures, c5.before.before.wide.ensures)
+    let c2 = c in
+    let c3 = c2 in
+    let c5 = c3 in
+    rw (c.both-2.ensures, c.both.ensures, c2.either-alone.ensures, c3.wide-3.ensures, c5.wide-2.ensures, c5.wide.ensures)
 
 pub starts_spec : {M : Type 1} → statement M
 starts_spec =

@@ -10,26 +10,26 @@ use Rattle.two_layer_cuts.specs.Rows.{item}
 use Rattle.two_layer.proofs.draw_row.Statement.{statement}
 use Rattle.two_layer.proofs.draw_row.Tie as tie
 
-abbrev invariant-loop : tie.invariant-loop
+abbrev invariant-loop : tie.invariant-loop-i
 invariant-loop part₀ row i₀ i-end part i = (i ≤ length part₀) × Upto part₀ part i (λ t. item row (suc t))
 
-abbrev decreases-loop : tie.decreases-loop
+abbrev decreases-loop : tie.decreases-loop-i
 decreases-loop part₀ row i₀ i-end part i = length part₀ - i
 
-loop-holds : tie.Need-loop-init invariant-loop decreases-loop
+loop-holds : tie.Need-loop-i-init invariant-loop decreases-loop
 loop-holds c = (omega arith, upto_start _ _)
 
-slice-write-part : tie.Need-slice-write-part invariant-loop decreases-loop
-slice-write-part c = omega (arith, c.before.before.loop.invariant.1.long)
+slice-write-part : tie.Need-bounds-part-i invariant-loop decreases-loop
+slice-write-part c = omega (arith, c.loop-i.invariant.1.long)
 
-loop-again : tie.Need-loop-preserved invariant-loop decreases-loop
-loop-again c = (omega arith, upto_next _ (omega arith) (rw add-one refl) c.before.before.loop.invariant.1)
+loop-again : tie.Need-loop-i-preserved invariant-loop decreases-loop
+loop-again c = (omega arith, upto_next _ (omega arith) (rw add-one refl) c.loop-i.invariant.1)
 
-same_length : tie.Need-same-length invariant-loop decreases-loop
-same_length c = c.before.loop.invariant.1.long
+same_length : tie.Need-shape_of-part invariant-loop decreases-loop
+same_length c = c.loop-i.invariant.1.long
 
 returns : tie.Need-returns invariant-loop decreases-loop
-returns c = upto_all (omega arith) c.before.loop.invariant.1
+returns c = upto_all (omega arith) c.loop-i.invariant.1
 
 pub draw_row_spec : {M : Type 1} → statement M
 draw_row_spec =

@@ -8,14 +8,14 @@ use Rattle.two_layer.proofs.lay.Tie as tie
 
 draw-requires : tie.Need-draw-requires
 draw-requires c κs =
-    let given = c.before.before.requires.0 in
-    let wide = c.before.before.requires.1 in (
+    let given = c.requires.0 in
+    let wide = c.requires.1 in (
       (given.channel.columns, omega (arith, wide.0, narrow given), wide.1),
       (wide.0 ∙ sym (width given), (fits_norths given, fits_moves given, fits_souths given)),
     )
 
 returns : tie.Need-returns
-returns c = let s = c.before.before.before.before.before in painted_legal s.requires.0 s.args.w.0 s.requires.1.0 c.before.before.draw.ensures
+returns c = painted_legal c.requires.0 c.args.w.0 c.requires.1.0 c.draw.ensures
 
 pub lay_spec : {M : Type 1} → statement M
 lay_spec = tie.close (tie.spec draw-requires (λ c. search rules) returns)

@@ -7,28 +7,27 @@ use Rattle.two_layer_cuts.proofs.Rows.{Below, below_none, below_next, below_all,
 use Rattle.two_layer_cuts.proofs.cut_after.Statement.{statement}
 use Rattle.two_layer_cuts.proofs.cut_after.Tie as tie
 
-abbrev invariant-loop : tie.invariant-loop
+abbrev invariant-loop : tie.invariant-loop-c
 invariant-loop cut x t next₀ c₀ next c = (c ≤ column_entries) × Below c (without x (item cut)) next
 
-abbrev decreases-loop : tie.decreases-loop
+abbrev decreases-loop : tie.decreases-loop-c
 decreases-loop cut x t next₀ c₀ next c = column_entries - c
 
-loop-holds : tie.Need-loop-init invariant-loop decreases-loop
+loop-holds : tie.Need-loop-c-init invariant-loop decreases-loop
 loop-holds c = (omega arith, below_none _)
 
-array-write-next : tie.Need-array-write-next invariant-loop decreases-loop
-array-write-next c = omega (arith, c.before.before.before.loop.invariant.1.size)
+array-write-next : tie.Need-bounds-next-c invariant-loop decreases-loop
+array-write-next c = omega (arith, c.loop-c.invariant.1.size)
 
-loop-again : tie.Need-loop-preserved invariant-loop decreases-loop
-loop-again c = (omega arith, below_next _ (omega arith) c.when.ensures c.before.before.before.loop.invariant.1)
+loop-again : tie.Need-loop-c-preserved invariant-loop decreases-loop
+loop-again c = (omega arith, below_next _ (omega arith) c.when.ensures c.loop-c.invariant.1)
 
-array-write-next-2 : tie.Need-array-write-next-2 invariant-loop decreases-loop
-array-write-next-2 c = omega (arith, c.wide.ensures, c.before.before.loop.invariant.1.size, c.before.before.before.requires)
+array-write-next-2 : tie.Need-bounds-next-wide invariant-loop decreases-loop
+array-write-next-2 c = omega (arith, c.wide.ensures, c.loop-c.invariant.1.size, c.requires)
 
 returns : tie.Need-returns invariant-loop decreases-loop
 returns c =
-    let c2 = c.before.before in
-    rw c.wide.ensures (row_after _ _ c2.before.args.cut.now _ c2.before.requires (below_all (omega arith) c2.loop.invariant.1))
+    rw c.wide.ensures (row_after _ _ c.args.cut.now _ c.requires (below_all (omega arith) c.loop-c.invariant.1))
 
 pub cut_after_spec : {M : Type 1} → statement M
 cut_after_spec =

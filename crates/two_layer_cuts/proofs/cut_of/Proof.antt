@@ -10,23 +10,23 @@ use Rattle.two_layer_cuts.proofs.Rows.{Below, below_one, below_next, below_all}
 use Rattle.two_layer_cuts.proofs.cut_of.Statement.{statement}
 use Rattle.two_layer_cuts.proofs.cut_of.Tie as tie
 
-abbrev invariant-loop : tie.invariant-loop
+abbrev invariant-loop : tie.invariant-loop-c
 invariant-loop side cut₀ c₀ cut c = (c ≤ longest_side) × Below (c + 1) (entry side) cut
 
-abbrev decreases-loop : tie.decreases-loop
+abbrev decreases-loop : tie.decreases-loop-c
 decreases-loop side cut₀ c₀ cut c = longest_side - c
 
-loop-holds : tie.Need-loop-init invariant-loop decreases-loop
+loop-holds : tie.Need-loop-c-init invariant-loop decreases-loop
 loop-holds c = (omega arith, below_one c.args.side.now)
 
-array-write-cut : tie.Need-array-write-cut invariant-loop decreases-loop
-array-write-cut c = omega (arith, c.before.before.loop.invariant.1.size)
+array-write-cut : tie.Need-bounds-cut-c invariant-loop decreases-loop
+array-write-cut c = omega (arith, c.loop-c.invariant.1.size)
 
-loop-again : tie.Need-loop-preserved invariant-loop decreases-loop
-loop-again c = (omega arith, below_next _ (omega arith) (rw add-one refl) c.before.before.loop.invariant.1)
+loop-again : tie.Need-loop-c-preserved invariant-loop decreases-loop
+loop-again c = (omega arith, below_next _ (omega arith) (rw add-one refl) c.loop-c.invariant.1)
 
 returns : tie.Need-returns invariant-loop decreases-loop
-returns c = below_all (omega arith) c.before.loop.invariant.1
+returns c = below_all (omega arith) c.loop-c.invariant.1
 
 pub cut_of_spec : {M : Type 1} → statement M
 cut_of_spec =

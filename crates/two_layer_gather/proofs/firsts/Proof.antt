@@ -10,26 +10,25 @@ use borrow.Author.Rules.{rules}
 use Rattle.two_layer_gather.proofs.firsts.Statement.{statement}
 use Rattle.two_layer_gather.proofs.firsts.Tie as tie
 
-abbrev invariant-loop : tie.invariant-loop
+abbrev invariant-loop : tie.invariant-loop-c
 invariant-loop side n first₀ c₀ first c = (c ≤ n) × Table (first_on (entry side) c) first
 
-abbrev decreases-loop : tie.decreases-loop
+abbrev decreases-loop : tie.decreases-loop-c
 decreases-loop side n first₀ c₀ first c = n - c
 
-loop-holds : tie.Need-loop-init invariant-loop decreases-loop
+loop-holds : tie.Need-loop-c-init invariant-loop decreases-loop
 loop-holds c = (omega arith, firsts_none c.args.side.now)
 
-loop-again : tie.Need-loop-preserved invariant-loop decreases-loop
+loop-again : tie.Need-loop-c-preserved invariant-loop decreases-loop
 loop-again c =
-    let c4 = c.before.before.before.before in
-    let l = c4.loop in
-    let e = c.before.entry_of.ensures in
-    (omega arith, firsts_more c4.before.args.side.now l.first l.c _ _ e.0 e.1 c.first_of.ensures l.invariant.1)
+    let l = c.loop-c in
+    let e = c.entry_of-m.ensures in
+    (omega arith, firsts_more c.args.side.now l.first l.c _ _ e.0 e.1 c.first_of.ensures l.invariant.1)
 
 returns : tie.Need-returns invariant-loop decreases-loop
 returns c =
-    let l = c.before.loop in
-    let e : l.c ≡ c.before.before.args.n = omega arith in
+    let l = c.loop-c in
+    let e : l.c ≡ c.args.n = omega arith in
     rw (← e) l.invariant.1
 
 pub firsts_spec : {M : Type 1} → statement M

@@ -10,54 +10,49 @@ use borrow.Author.Rules.{rules}
 use Rattle.two_layer_gather.proofs.gather.Statement.{statement}
 use Rattle.two_layer_gather.proofs.gather.Tie as tie
 
-abbrev invariant-loop : tie.invariant-loop
+abbrev invariant-loop : tie.invariant-loop-m
 invariant-loop pins first last other nets₀ tos₀ lows₀ highs₀ found₀ m₀ nets tos lows highs found m =
     (m ≤ largest_net) × (found ≡ count (many pins) m) × Held (Picked pins first last other) nets tos lows highs found
 
-abbrev decreases-loop : tie.decreases-loop
+abbrev decreases-loop : tie.decreases-loop-m
 decreases-loop pins first last other nets₀ tos₀ lows₀ highs₀ found₀ m₀ nets tos lows highs found m = largest_net - m
 
-few : (c : tie.In-loop invariant-loop decreases-loop) → c.before.loop.found < largest_net
+few : (c : tie.In-loop-m invariant-loop decreases-loop) → c.loop-m.found < largest_net
 few c =
-    let c1 = c.before in
-    omega (arith, c1.loop.invariant.1, rank_le c1.before.args.pins.now c1.loop.m)
+    omega (arith, c.loop-m.invariant.1, rank_le c.args.pins.now c.loop-m.m)
 
-loop-holds : tie.Need-loop-init invariant-loop decreases-loop
+loop-holds : tie.Need-loop-m-init invariant-loop decreases-loop
 loop-holds c = (omega arith, ranks_none c.args.pins.now, held_none _)
 
-array-write-nets : tie.Need-array-write-nets invariant-loop decreases-loop
+array-write-nets : tie.Need-bounds-nets-found invariant-loop decreases-loop
 array-write-nets c = omega (arith, few c)
 
-array-write-tos : tie.Need-array-write-tos invariant-loop decreases-loop
-array-write-tos c = omega (arith, few c.before.before.before)
+array-write-tos : tie.Need-bounds-tos-found invariant-loop decreases-loop
+array-write-tos c = omega (arith, few c.before.before.before.before.before)
 
-array-write-lows : tie.Need-array-write-lows invariant-loop decreases-loop
-array-write-lows c = omega (arith, few c.before.before.before.before)
+array-write-lows : tie.Need-bounds-lows-found invariant-loop decreases-loop
+array-write-lows c = omega (arith, few c.before.before.before.before.before.before)
 
-array-write-highs : tie.Need-array-write-highs invariant-loop decreases-loop
-array-write-highs c = omega (arith, few c.before.before.before.before.before)
+array-write-highs : tie.Need-bounds-highs-found invariant-loop decreases-loop
+array-write-highs c = omega (arith, few c.before.before.before.before.before.before.before.before)
 
-add-found : tie.Need-overflow-add-found invariant-loop decreases-loop
+add-found : tie.Need-overflow_add-found invariant-loop decreases-loop
 add-found c =
-    let c7 = c.before.before.before.before.before.before.before in
-    omega (arith, few c7, c.one_if.ensures.1)
+    omega (arith, few c.before.before.before.before.before.before.before.before.before.before.before, c.one_if-found.ensures.1)
 
-loop-again : tie.Need-loop-preserved invariant-loop decreases-loop
+loop-again : tie.Need-loop-m-preserved invariant-loop decreases-loop
 loop-again c =
-    let c4 = c.before.before.before.before in
-    let c8 = c4.before.before.before.before in
-    let l = c8.loop in
-    let args = c8.before.args in
+    let l = c.loop-m in
+    let args = c.args in
     let more = picked_more args.pins.now args.first.now args.last.now args.other.now l.nets l.tos l.lows
-    l.highs l.m l.found c.one_if.result c4.when.result (omega arith) l.invariant.1 c.one_if.ensures.0
-    c4.when.ensures l.invariant.2 in
+    l.highs l.m l.found c.one_if-found.result c.when.result (omega arith) l.invariant.1 c.one_if-found.ensures.0
+    c.when.ensures l.invariant.2 in
     (omega arith, more.0, more.1)
 
 returns : tie.Need-returns invariant-loop decreases-loop
 returns c =
-    let c1 = c.before in
-    let l = c1.loop in
-    let args = c1.before.args in
+    let l = c.loop-m in
+    let args = c.args in
     let e : l.m ≡ largest_net = omega arith in
     λ a b n cs fs ls os. gathered args.pins.now args.first.now args.last.now args.other.now a b n cs fs ls os
     l.nets l.tos l.lows l.highs l.found (rw e at l.invariant.1) l.invariant.2

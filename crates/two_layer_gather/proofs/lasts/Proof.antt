@@ -10,25 +10,24 @@ use borrow.Author.Rules.{rules}
 use Rattle.two_layer_gather.proofs.lasts.Statement.{statement}
 use Rattle.two_layer_gather.proofs.lasts.Tie as tie
 
-abbrev invariant-loop : tie.invariant-loop
+abbrev invariant-loop : tie.invariant-loop-c
 invariant-loop side n last₀ c₀ last c = (c ≤ n) × Table (last_on (entry side) c) last
 
-abbrev decreases-loop : tie.decreases-loop
+abbrev decreases-loop : tie.decreases-loop-c
 decreases-loop side n last₀ c₀ last c = n - c
 
-loop-holds : tie.Need-loop-init invariant-loop decreases-loop
+loop-holds : tie.Need-loop-c-init invariant-loop decreases-loop
 loop-holds c = (omega arith, lasts_none c.args.side.now)
 
-loop-again : tie.Need-loop-preserved invariant-loop decreases-loop
+loop-again : tie.Need-loop-c-preserved invariant-loop decreases-loop
 loop-again c =
-    let c3 = c.before.before.before in
-    let e = c.entry_of.ensures in
-    (omega arith, lasts_more c3.before.args.side.now c3.loop.last c3.loop.c _ e.0 e.1 c3.loop.invariant.1)
+    let e = c.entry_of-m.ensures in
+    (omega arith, lasts_more c.args.side.now c.loop-c.last c.loop-c.c _ e.0 e.1 c.loop-c.invariant.1)
 
 returns : tie.Need-returns invariant-loop decreases-loop
 returns c =
-    let l = c.before.loop in
-    let e : l.c ≡ c.before.before.args.n = omega arith in
+    let l = c.loop-c in
+    let e : l.c ≡ c.args.n = omega arith in
     rw (← e) l.invariant.1
 
 pub lasts_spec : {M : Type 1} → statement M

@@ -11,35 +11,32 @@ use borrow.Author.Rules.{rules}
 use Rattle.two_layer_gather.proofs.leads.Statement.{statement}
 use Rattle.two_layer_gather.proofs.leads.Tie as tie
 
-abbrev invariant-loop : tie.invariant-loop
+abbrev invariant-loop : tie.invariant-loop-c
 invariant-loop side first other n lead₀ c₀ lead c =
     (c ≤ n) × ((b : ℕ → ℕ) → Table (first_on (entry side) n) first → Table (first_on b n) other → Row c (leads (entry side) b n) lead)
 
-abbrev decreases-loop : tie.decreases-loop
+abbrev decreases-loop : tie.decreases-loop-c
 decreases-loop side first other n lead₀ c₀ lead c = n - c
 
-loop-holds : tie.Need-loop-init invariant-loop decreases-loop
+loop-holds : tie.Need-loop-c-init invariant-loop decreases-loop
 loop-holds c = (omega arith, λ b f o. row_none _ (lead_zero c.args.side.now b c.args.n))
 
-loop-again : tie.Need-loop-preserved invariant-loop decreases-loop
+loop-again : tie.Need-loop-c-preserved invariant-loop decreases-loop
 loop-again c =
-    let c3 = c.before.before.before in
-    let c5 = c3.before.before in
-    let c8 = c5.before.before.before in
-    let l = c8.loop in
-    let args = c8.before.args in
-    let e = c5.entry_of.ensures in (
+    let l = c.loop-c in
+    let args = c.args in
+    let e = c.entry_of-m.ensures in (
       omega arith,
       λ b f o. row_more _ _ _ _ (omega arith)
           (lead_more args.side.now args.first.now args.other.now b _ l.c _ _ _ _ e.0 e.1
-          c3.wide.ensures c.before.both.ensures c.when.ensures f o)
+          c.wide.ensures c.both.ensures c.when.ensures f o)
           (l.invariant.1 b f o),
     )
 
 returns : tie.Need-returns invariant-loop decreases-loop
 returns c =
-    let l = c.before.loop in
-    let e : l.c ≡ c.before.before.args.n = omega arith in
+    let l = c.loop-c in
+    let e : l.c ≡ c.args.n = omega arith in
     λ b f o. rw e at (l.invariant.1 b f o)
 
 pub leads_spec : {M : Type 1} → statement M

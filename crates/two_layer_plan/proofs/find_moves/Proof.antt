@@ -13,75 +13,63 @@ use Rattle.two_layer_plan.proofs.Moving.{Moving, moving_none, moving_full, movin
 use Rattle.two_layer_plan.proofs.find_moves.Statement.{statement}
 use Rattle.two_layer_plan.proofs.find_moves.Tie as tie
 
-abbrev invariant-loop : tie.invariant-loop
+abbrev invariant-loop : tie.invariant-loop-count
 invariant-loop goal n made₀ cut₀ at₀ left₀ count₀ made cut at left count =
     (count ≤ most_moves) × (length at ≡ byte_values) × (left ≤ n) × ((m : ℕ) → get_or at m 0 ≤ n)
     × ((goal' : ℕ → ℕ) (st : MoveState) → Row n goal' goal → Agree n st (state_of cut₀ at₀ 0)
     → Moving n goal' st made.nets made.tos made.lows made.highs cut at left count)
 
-abbrev decreases-loop : tie.decreases-loop
+abbrev decreases-loop : tie.decreases-loop-count
 decreases-loop goal n made₀ cut₀ at₀ left₀ count₀ made cut at left count = most_moves - count
 
-inside : (c : tie.After-next-move invariant-loop decreases-loop) → c.next_move.result.to ≤ c.before.before.before.before.before.args.n
+inside : (c : tie.After-next_move-step invariant-loop decreases-loop) → c.next_move-step.result.to ≤ c.args.n
 inside c =
-    let c3 = c.before.before.before in
-    let l = c3.loop in
-    next_le _ (item c3.before.before.args.goal.now) (item l.cut) (item l.at) l.left _ _ l.invariant.2
-    (c.next_move.ensures (item l.at))
+    let l = c.loop-count in
+    next_le _ (item c.args.goal.now) (item l.cut) (item l.at) l.left _ _ l.invariant.2
+    (c.next_move-step.ensures (item l.at))
 
-loop-holds : tie.Need-loop-init invariant-loop decreases-loop
+loop-holds : tie.Need-loop-count-init invariant-loop decreases-loop
 loop-holds c = (
   omega arith,
-  omega (arith, c.before.well-formed),
+  omega (arith, c.well_formed),
   omega arith,
-  c.before.requires.2,
-  λ goal' st r a. rw c.no_operations.ensures (moving_none _ goal' st _ _ _ _ _ _ (held_none _) a),
+  c.requires.2,
+  λ goal' st r a. rw c.no_operations-made.ensures (moving_none _ goal' st _ _ _ _ _ _ (held_none _) a),
 )
 
-next-move-requires : tie.Need-next-move-requires invariant-loop decreases-loop
+next-move-requires : tie.Need-next_move-step-requires invariant-loop decreases-loop
 next-move-requires c κs =
-    let c2 = c.before.before in
-    let start = c2.before.before in
-    (start.requires.0, c2.loop.invariant.2, start.requires.1)
+    (c.requires.0, c.loop-count.invariant.2, c.requires.1)
 
-cut-after-requires : tie.Need-cut-after-requires invariant-loop decreases-loop
+cut-after-requires : tie.Need-cut_after-after-requires invariant-loop decreases-loop
 cut-after-requires c κs =
-    let c6 = c.before.before.before.before.before.before in
-    omega (arith, inside c6, c6.before.before.before.before.before.requires.0)
+    omega (arith, inside c.before.before.before.before.before.before, c.requires.0)
 
-loop-again : tie.Need-loop-preserved invariant-loop decreases-loop
+loop-again : tie.Need-loop-count-preserved invariant-loop decreases-loop
 loop-again c =
-    let c2 = c.before.before in
-    let c3 = c2.before in
-    let c4 = c3.before in
-    let c5 = c4.before in
-    let c7 = c5.before.before in
-    let c10 = c7.before.before.before in
-    let l = c10.loop in
-    let start = c10.before.before in
-    let e = c5.entry_of.ensures in
-    let new = c7.next_move.ensures (item l.at) in (
+    let l = c.loop-count in
+    let e = c.entry_of-x.ensures in
+    let new = c.next_move-step.ensures (item l.at) in (
       omega arith,
       simp length-set l.invariant.1,
-      omega (arith, c2.wide.ensures, l.invariant.3 c5.entry_of.result),
-      near_more _ l.at _ _ l.invariant.1 e.1 (inside c7) l.invariant.3,
+      omega (arith, c.wide-left.ensures, l.invariant.3 c.entry_of-x.result),
+      near_more _ l.at _ _ l.invariant.1 e.1 (inside c.before.before.before.before.before.before.before) l.invariant.3,
       λ goal' st r a. moving_more _ goal' st l.made.nets l.made.tos l.made.lows l.made.highs l.cut l.at l.left
-          l.count (l.invariant.4 goal' st r a) start.args.goal.now r l.invariant.2 _ _ new (omega arith) start.requires.0
-          c5.before.if1.false l.invariant.1 _ _ e.0 e.1 c2.wide.ensures _ c.cut_after.ensures _ _
-          c4.smaller_byte.ensures c3.larger_byte.ensures,
+          l.count (l.invariant.4 goal' st r a) c.args.goal.now r l.invariant.2 _ _ new (omega arith) c.requires.0
+          c.if-net-eq0.false l.invariant.1 _ _ e.0 e.1 c.wide-left.ensures _ c.cut_after-after.ensures _ _
+          c.smaller_byte.ensures c.larger_byte.ensures,
     )
 
-returns : tie.Need-returns invariant-loop decreases-loop
+returns : tie.Need-returns-after-loop-count invariant-loop decreases-loop
 returns c =
-    let l = c.before.loop in
+    let l = c.loop-count in
     λ goal' st r a. moving_full _ goal' st _ _ _ _ _ _ _ _ (l.invariant.4 goal' st r a) (omega arith)
 
-returns-2 : tie.Need-returns-2 invariant-loop decreases-loop
+returns-2 : tie.Need-returns-then-net-eq0 invariant-loop decreases-loop
 returns-2 c =
-    let c4 = c.before.before.before.before in
-    let l = c4.loop in
-    λ goal' st r a. moving_done _ goal' st _ _ _ _ _ _ _ _ (l.invariant.4 goal' st r a) c4.before.before.args.goal.now r
-    l.invariant.2 _ _ (c.before.next_move.ensures (item l.at)) l.invariant.0 c.if1.true
+    let l = c.loop-count in
+    λ goal' st r a. moving_done _ goal' st _ _ _ _ _ _ _ _ (l.invariant.4 goal' st r a) c.args.goal.now r
+    l.invariant.2 _ _ (c.next_move-step.ensures (item l.at)) l.invariant.0 c.if-net-eq0.true
 
 pub find_moves_spec : {M : Type 1} → statement M
 find_moves_spec =

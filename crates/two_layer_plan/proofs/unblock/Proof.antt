@@ -6,22 +6,18 @@ use Rattle.two_layer_plan.proofs.Moving.{out_here, out_none}
 use Rattle.two_layer_plan.proofs.unblock.Statement.{statement}
 use Rattle.two_layer_plan.proofs.unblock.Tie as tie
 
-returns : tie.Need-returns
+returns : tie.Need-returns-then-blocked-ge1
 returns c =
-    let c2 = c.before.before in
-    let c3 = c2.before in
-    let args = c3.before.args in (
-      out_here args.n (item args.goal.now) (item args.cut.now) _ c2.first_wrong.ensures.0 c.before.if1.true,
-      c3.first_spare.ensures.0,
+    let args = c.args in (
+      out_here args.n (item args.goal.now) (item args.cut.now) _ c.first_wrong-blocked.ensures.0 c.if-blocked-ge1.true,
+      c.first_spare-to.ensures.0,
     )
 
-returns-2 : tie.Need-returns-2
+returns-2 : tie.Need-returns
 returns-2 c =
-    let c1 = c.before in
-    let c2 = c1.before in
-    let args = c2.before.args in (
-      out_none args.n (item args.goal.now) (item args.cut.now) _ c1.first_wrong.ensures.0 (omega (arith, c.if1.false)),
-      c2.first_spare.ensures.0,
+    let args = c.args in (
+      out_none args.n (item args.goal.now) (item args.cut.now) _ c.first_wrong-blocked.ensures.0 (omega (arith, c.if-blocked-ge1.false)),
+      c.first_spare-to.ensures.0,
     )
 
 pub unblock_spec : {M : Type 1} → statement M

@@ -8,49 +8,48 @@ use borrow.Author.Rules.{rules}
 use Rattle.view.proofs.layer_view_refusal.Statement.{statement}
 use Rattle.view.proofs.layer_view_refusal.Tie as tie
 
-returns : tie.Need-returns
+returns : tie.Need-returns-then-not-is_grid
 unfolding view_refusal
-returns c = simp (← c.before.before.is_grid.ensures, not-true c.before.before.is_grid.result c.before.if1.true) c.refuse.ensures
+returns c = simp (← c.is_grid.ensures, c.if-not-is_grid.true) c.refuse.ensures
 
-points-requires : tie.Need-points-requires
+points-requires : tie.Need-points-size-requires
 points-requires c κs =
-    let z = sized _ _ _ (sym c.before.is_grid.ensures ∙ not-false c.before.is_grid.result c.if1.false) in
+    let z = sized _ _ _ (sym c.is_grid.ensures ∙ c.if-not-is_grid.false) in
     (z.long.1, z.wide.1, z.high.1)
 
-returns-2 : tie.Need-returns-2
+returns-2 : tie.Need-returns-then-wiring-size
 unfolding view_refusal
 returns-2 c =
     simp (
-      ← c.before.before.before.before.is_grid.ensures,
-      not-false c.before.before.before.before.is_grid.result
-          c.before.before.before.if1.false,
-      ← c.before.before.points.ensures,
-      ne_eqb _ _ c.before.if2.true,
-    ) c.refuse2.ensures
+      ← c.is_grid.ensures,
+      c.if-not-is_grid.false,
+      ← c.points-size.ensures,
+      ne_eqb _ _ c.if-wiring-size.true,
+    ) c.refuse-then-wiring-size.ensures
 
-returns-3 : tie.Need-returns-3
+returns-3 : tie.Need-returns-then-not-is_layer
 unfolding view_refusal
 returns-3 c =
     simp (
-      ← c.before.before.before.before.before.before.before.is_grid.ensures,
-      not-false c.before.before.before.before.before.before.before.is_grid.result c.before.before.before.before.before.before.if1.false,
-      ← c.before.before.before.before.before.points.ensures,
-      eq-eqb _ _ c.before.before.before.before.if2.false,
-      ← c.before.before.before.is_layer.ensures,
-      not-true c.before.before.before.is_layer.result c.before.before.if3.true,
-    ) (c.refuse3.ensures ∙ ap (refusal 16) c.before.layer_count.ensures)
+      ← c.is_grid.ensures,
+      c.if-not-is_grid.false,
+      ← c.points-size.ensures,
+      eq-eqb _ _ c.if-wiring-size.false,
+      ← c.is_layer.ensures,
+      c.if-not-is_layer.true,
+    ) (c.refuse-then-not-is_layer.ensures ∙ ap (refusal 16) c.layer_count.ensures)
 
-returns-4 : tie.Need-returns-4
+returns-4 : tie.Need-returns
 unfolding view_refusal
 returns-4 c =
     simp (
-      ← c.before.before.before.before.before.before.is_grid.ensures,
-      not-false c.before.before.before.before.before.before.is_grid.result c.before.before.before.before.before.if1.false,
-      ← c.before.before.before.before.points.ensures,
-      eq-eqb _ _ c.before.before.before.if2.false,
-      ← c.before.before.is_layer.ensures,
-      not-false c.before.before.is_layer.result c.before.if3.false,
-    ) c.refuse4.ensures
+      ← c.is_grid.ensures,
+      c.if-not-is_grid.false,
+      ← c.points-size.ensures,
+      eq-eqb _ _ c.if-wiring-size.false,
+      ← c.is_layer.ensures,
+      c.if-not-is_layer.false,
+    ) c.refuse-2.ensures
 
 pub layer_view_refusal_spec : {M : Type 1} → statement M
 layer_view_refusal_spec =

@@ -8,7 +8,7 @@ use Rattle.board.proofs.Board.across.Tie as tie
 
 returns : tie.Need-returns
 unfolding stored_across
-returns c = let is = c.wide.ensures ∙ c.before.greatest.ensures in (is, λ sound counted. is ∙ stored_across_lem sound counted)
+returns c = let is = c.wide.ensures ∙ c.greatest.ensures in (is, λ sound counted. is ∙ stored_across_lem sound counted)
 
 pub across_spec : {M : Type 1} → statement M
 across_spec = tie.close (tie.spec (λ c κs. search rules) (λ c κs. search rules) returns)

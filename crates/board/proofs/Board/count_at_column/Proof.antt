@@ -7,7 +7,7 @@ use Rattle.board.proofs.Board.count_at_column.Tie as tie
 
 returns : tie.Need-returns
 returns c =
-    (c.count_at.ensures, λ sound counted. c.count_at.ensures ∙ column_at sound counted c.before.before.before.args.c)
+    (c.count_at.ensures, λ sound counted. c.count_at.ensures ∙ column_at sound counted c.args.c)
 
 pub count_at_column_spec : {M : Type 1} → statement M
 count_at_column_spec = tie.close (tie.spec (λ c κs. search rules) returns)

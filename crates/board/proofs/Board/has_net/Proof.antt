@@ -7,23 +7,20 @@ use Rattle.ticket_sides.proofs.Flags.{failed, passed}
 use Rattle.board.proofs.Board.has_net.Statement.{statement}
 use Rattle.board.proofs.Board.has_net.Tie as tie
 
-returns : tie.Need-returns
-returns c = rw (failed c.before.is_Within.ensures c.if1.true)
+returns : tie.Need-returns-then-not-is_within
+returns c = rw (failed c.is_within.ensures c.if-not-is_within.true)
 
-cast-holds-net : tie.Need-overflow-cast-holds-net
+cast-holds-net : tie.Need-overflow_cast-net
 cast-holds-net c =
-    let c3 = c.before.before.before in
-    omega (arith, within_in c3.before.args.net largest_net (passed c3.is_Within.ensures c.before.before.if1.false))
+    omega (arith, within_in c.args.net largest_net (passed c.is_within.ensures c.if-not-is_within.false))
 
-holds-net-requires : tie.Need-holds-net-requires
+holds-net-requires : tie.Need-holds_net-requires
 holds-net-requires c κs =
-    let c3 = c.before.before.before in
-    (within_in c3.before.args.net largest_net (passed c3.is_Within.ensures c.before.before.if1.false)).0
+    (within_in c.args.net largest_net (passed c.is_within.ensures c.if-not-is_within.false)).0
 
-returns-2 : tie.Need-returns-2
+returns-2 : tie.Need-returns
 returns-2 c =
-    let c4 = c.before.before.before.before in
-    rw (passed c4.is_Within.ensures c.before.before.before.if1.false) c.holds_net.ensures
+    rw (passed c.is_within.ensures c.if-not-is_within.false) c.holds_net.ensures
 
 pub has_net_spec : {M : Type 1} → statement M
 has_net_spec = tie.close (tie.spec (λ c κs. search rules) returns cast-holds-net holds-net-requires returns-2)

@@ -9,13 +9,12 @@ use Rattle.board.proofs.StoredCounts.{fresh_counted}
 use Rattle.board.proofs.Board.start.Statement.{statement}
 use Rattle.board.proofs.Board.start.Tie as tie
 
-returns : tie.Need-returns
+returns : tie.Need-returns-then-refusal-ne0
 returns c =
-    let c3 = c.before.before.before in
-    let a = c3.before.args in
-    let is = c.fresh.ensures.0 ∙ sym (start_refused a.kind a.n a.byte2 c3.start_refusal.ensures c.before.if1.true)
+    let a = c.args in
+    let is = c.fresh.ensures.0 ∙ sym (start_refused a.kind a.n a.byte2 c.start_refusal-refusal.ensures c.if-refusal-ne0.true)
     in (
-      c3.start_refusal.ensures,
+      c.start_refusal-refusal.ensures,
       (
         is,
         (
@@ -25,30 +24,27 @@ returns c =
       ),
     )
 
-cast-fresh : tie.Need-overflow-cast-fresh
+cast-fresh : tie.Need-overflow_cast-kind
 cast-fresh c =
-    let c2 = c.before.before in
-    let a = c2.before.args in
-    omega (arith, (start_in a.kind a.n a.byte2 c2.start_refusal.ensures c.if1.false).0)
+    let a = c.args in
+    omega (arith, (start_in a.kind a.n a.byte2 c.start_refusal-refusal.ensures c.if-refusal-ne0.false).0)
 
-cast-fresh-2 : tie.Need-overflow-cast-fresh-2
+cast-fresh-2 : tie.Need-overflow_cast-byte2
 cast-fresh-2 c =
-    let c2 = c.before.before in
-    let a = c2.before.args in
-    omega (arith, (start_in a.kind a.n a.byte2 c2.start_refusal.ensures c.if1.false).1)
+    let a = c.args in
+    omega (arith, (start_in a.kind a.n a.byte2 c.start_refusal-refusal.ensures c.if-refusal-ne0.false).1)
 
-returns-2 : tie.Need-returns-2
+returns-2 : tie.Need-returns
 returns-2 c =
-    let c3 = c.before.before.before in
-    let a = c3.before.args in
-    let is = c.fresh2.ensures.0 ∙ sym (start_accepted a.kind a.n a.byte2 c3.start_refusal.ensures
-    c.before.if1.false) in (
-      c3.start_refusal.ensures,
+    let a = c.args in
+    let is = c.fresh-2.ensures.0 ∙ sym (start_accepted a.kind a.n a.byte2 c.start_refusal-refusal.ensures
+    c.if-refusal-ne0.false) in (
+      c.start_refusal-refusal.ensures,
       (
         is,
         (
           subst Sound (sym is) (start_sound a.kind a.n a.byte2),
-          fresh_counted a.kind a.n a.byte2 is c.fresh2.ensures.1,
+          fresh_counted a.kind a.n a.byte2 is c.fresh-2.ensures.1,
         ),
       ),
     )

@@ -8,7 +8,7 @@ use Rattle.board.proofs.Board.up.Tie as tie
 
 returns : tie.Need-returns
 unfolding stored_up
-returns c = let is = c.wide.ensures ∙ c.before.greatest.ensures in (is, λ sound counted. is ∙ stored_up_lem sound counted)
+returns c = let is = c.wide.ensures ∙ c.greatest.ensures in (is, λ sound counted. is ∙ stored_up_lem sound counted)
 
 pub up_spec : {M : Type 1} → statement M
 up_spec = tie.close (tie.spec (λ c κs. search rules) (λ c κs. search rules) returns)

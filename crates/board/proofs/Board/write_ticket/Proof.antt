@@ -8,8 +8,7 @@ use Rattle.board.proofs.Board.write_ticket.Tie as tie
 
 returns : tie.Need-returns
 returns c =
-    let c4 = c.before.before.before.before in
-    λ sound. wrote_as (ap bytes_of (c4.limited.ensures.1 sound)) c.before.before.write_ticket.ensures
+    λ sound. wrote_as (ap bytes_of (c.limited.ensures.1 sound)) c.write_ticket.ensures
 
 pub write_ticket_spec : {M : Type 1} → statement M
 write_ticket_spec = tie.close (tie.spec (λ c κs. search rules) (λ c κs. search rules) (λ c. search rules) returns)
