@@ -21,7 +21,7 @@
 --     kind, n, byte2       "A board has a kind and a shape", and no call changes them
 --     pins, places         "the pins are those of the nets": the net at a place has it on its list, and no other has; every place on
 --                          a list is a place of the board
---     add-refusals, drop-refusals
+--     add_refusals, drop_refusals
 --                          what is refused depends on the nets alone
 --     nets                 the number of nets is how many are there
 --     several              "Each net has at least two pins"
