@@ -19,7 +19,7 @@ ghost use Rattle.counting.specs.Counting.{In};
 
 use board::{Board, Edited};
 use board_pins::{EAST_FROM, SOUTH_FROM, WEST_FROM};
-use libc::STDIN_FILENO;
+use std::io;
 use survey::SurveyAnswer;
 use terms::{BOX, larger, wide};
 use ticket::LONGEST_TICKET;
@@ -262,12 +262,12 @@ fn number_of(mode: u8, r: Read, rounds: usize) -> usize {
     records::hash(&ticket, r.figures % Board::LARGEST_NET)
 }
 
-fn main() {
+fn main(rt: HostRuntime) -> io::Result<()> {
     let mut input = [0u8; INPUT];
-    if io::read_full(STDIN_FILENO, &mut input) < INPUT {
-        return;
+    if records::read_full(&mut rt.stdin(), &mut input)? < INPUT {
+        return Ok(());
     }
     let mode = input[0];
     let rounds = records::eight(&input, 1);
-    records::last_field(number_of(mode, done(mode, full(), rounds), rounds));
+    records::last_field(&rt, number_of(mode, done(mode, full(), rounds), rounds))
 }

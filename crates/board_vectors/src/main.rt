@@ -19,12 +19,12 @@
 // lent to the call. The second is the same of 196 bytes: the count at columns 0, 1, .. 97 and then the count at tracks 0, 1, .. 97.
 #![tactic(auto)]
 
-ghost use Rattle.std.specs.Prelude.{◌+◌, ◌≤◌, ◌≡◌, length};
+ghost use Rattle.std.specs.Prelude.{◌+◌, ◌≤◌, ◌≡◌, length, IfOk};
 
 use board::{Board, Edited};
-use libc::STDIN_FILENO;
 use output::Written;
 use records::{field, refusal_fields};
+use std::io;
 use terms::{BYTE_VALUES, ROW, larger, wide};
 
 // No code: the run ends.
@@ -194,69 +194,69 @@ fn counts_of(board: Board) -> [u8; 2 * COUNTS] {
 }
 
 // The line of a call that starts or changes a board; the first number of its record is `net`, 0 if it has none.
-fn show(r: Edited, net: usize, buffer: &mut [u8]) {
+fn show(rt: &impl Print, r: Edited, net: usize, buffer: &mut [u8]) -> io::Result<()> {
     let board = r.board;
-    refusal_fields(r.refusal);
-    field(terms::one_if(board.has_net(net)));
-    field(board.net_count());
-    field(board.across());
-    field(board.up());
-    field(grid::layer_count(board.floor()));
+    refusal_fields(rt, r.refusal)?;
+    field(rt, terms::one_if(board.has_net(net)))?;
+    field(rt, board.net_count())?;
+    field(rt, board.across())?;
+    field(rt, board.up())?;
+    field(rt, grid::layer_count(board.floor()))?;
     let size = buffer.len();
     let w = write(board, size, buffer);
-    field(w.length);
-    field(records::hash(buffer, 0));
-    records::last_field(records::hash(&counts_of(board), 0));
+    field(rt, w.length)?;
+    field(rt, records::hash(buffer, 0))?;
+    records::last_field(rt, records::hash(&counts_of(board), 0))
 }
 
 // The line of a ticket that is written into `size` bytes.
-fn show_written(board: Board, size: usize, buffer: &mut [u8])
+fn show_written(rt: &impl Print, board: Board, size: usize, buffer: &mut [u8]) -> io::Result<()>
     requires { size ≤ length buffer.old }
 {
     let w = write(board, size, buffer);
-    refusal_fields(w.refusal);
-    field(w.length);
-    records::last_field(records::hash(buffer, 0));
+    refusal_fields(rt, w.refusal)?;
+    field(rt, w.length)?;
+    records::last_field(rt, records::hash(buffer, 0))
 }
 
 // Makes the call of a record; the next one starts at `at` itself where this one ends the run.
-fn one(s: &[u8], at: usize, board: Board, buffer: &mut [u8]) -> Step
+fn one(rt: &impl Print, s: &[u8], at: usize, board: Board, buffer: &mut [u8]) -> io::Result<Step>
     requires { at ≤ length s.now }
-    ensures { result.next ≤ length s.now }
+    ensures { IfOk result (λ step. step.next ≤ length s.now) }
 {
     let r = record_at(s, at);
     let from = r.from;
     let end = r.end;
     if r.code == NONE {
-        return Step { next: at, board };
+        return Ok(Step { next: at, board });
     }
     let numbers = numbers_of(&s[from..end], r.size);
     let first = numbers[0];
     if r.code == WRITE {
         if buffer.len() < first {
-            return Step { next: at, board };
+            return Ok(Step { next: at, board });
         }
-        show_written(board, first, buffer);
-        return Step { next: end, board };
+        show_written(rt, board, first, buffer)?;
+        return Ok(Step { next: end, board });
     }
     let edited = edit(board, r.code, &numbers, r.count);
-    show(edited, first, buffer);
+    show(rt, edited, first, buffer)?;
     let after = edited.board;
-    Step {
+    Ok(Step {
         next: end,
         board: after,
-    }
+    })
 }
 
-fn all(s: &[u8], buffer: &mut [u8]) {
+fn all(rt: &impl Print, s: &[u8], buffer: &mut [u8]) -> io::Result<()> {
     let fresh = Board::start(wide(ROW), 1, 1);
     let mut board = fresh.board;
     let mut at = 0;
     loop {
-        let step = one(s, at, board, buffer);
+        let step = one(rt, s, at, board, buffer)?;
         let next = step.next;
         if next <= at {
-            return;
+            return Ok(());
         }
         at = next;
         let after = step.board;
@@ -264,9 +264,9 @@ fn all(s: &[u8], buffer: &mut [u8]) {
     }
 }
 
-fn main() {
-    let mut input = io::large_buffer();
+fn main(rt: HostRuntime) -> io::Result<()> {
+    let mut input = [0u8; records::MOST_INPUT];
     let mut buffer = [0u8; LONGEST_BUFFER];
-    let n = io::read_full(STDIN_FILENO, &mut input);
-    all(&input[..n], &mut buffer);
+    let n = records::read_full(&mut rt.stdin(), &mut input)?;
+    all(&rt, &input[..n], &mut buffer)
 }

@@ -1,46 +1,46 @@
 // Prints the answer to each stored ticket: number, place, floor and edge floor.
 #![tactic(auto)]
 
-ghost use Rattle.std.specs.Prelude.{◌≤◌, length};
+ghost use Rattle.std.specs.Prelude.{◌≤◌, length, IfOk};
 
-use libc::STDIN_FILENO;
 use records::{field, last_field};
+use std::io;
 
-fn show(ticket: &[u8]) {
+fn show(rt: &impl Print, ticket: &[u8]) -> io::Result<()> {
     let a = edge_floor::edge_floor(ticket);
-    records::refusal_fields(a.refusal);
-    field(grid::layer_count(a.floor));
-    last_field(grid::layer_count(a.edge));
+    records::refusal_fields(rt, a.refusal)?;
+    field(rt, grid::layer_count(a.floor))?;
+    last_field(rt, grid::layer_count(a.edge))
 }
 
 // Shows the record that starts at `at`, and answers where it ends: at `at` itself where it is not whole.
-fn one(s: &[u8], at: usize) -> usize
+fn one(rt: &impl Print, s: &[u8], at: usize) -> io::Result<usize>
     requires { at ≤ length s.now }
-    ensures { result ≤ length s.now }
+    ensures { IfOk result (λ next. next ≤ length s.now) }
 {
     let r = records::record_at(s, at, 0);
     let from = r.from;
     let end = r.end;
     if end <= at {
-        return at;
+        return Ok(at);
     }
-    show(&s[from..end]);
-    end
+    show(rt, &s[from..end])?;
+    Ok(end)
 }
 
-fn all(s: &[u8]) {
+fn all(rt: &impl Print, s: &[u8]) -> io::Result<()> {
     let mut at = 0;
     loop {
-        let next = one(s, at);
+        let next = one(rt, s, at)?;
         if next <= at {
-            return;
+            return Ok(());
         }
         at = next;
     }
 }
 
-fn main() {
-    let mut buffer = io::large_buffer();
-    let n = io::read_full(STDIN_FILENO, &mut buffer);
-    all(&buffer[..n]);
+fn main(rt: HostRuntime) -> io::Result<()> {
+    let mut buffer = [0u8; records::MOST_INPUT];
+    let n = records::read_full(&mut rt.stdin(), &mut buffer)?;
+    all(&rt, &buffer[..n])
 }

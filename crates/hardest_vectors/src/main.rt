@@ -6,9 +6,9 @@
 ghost use Rattle.std.specs.Prelude.{◌+◌, ◌≤◌, length};
 
 use grid::{Column, Track};
-use libc::STDIN_FILENO;
 use output::MOST_OUTPUT;
 use records::{field, hash, last_field};
+use std::io;
 use terms::{LONGEST_SIDE, smaller};
 
 // The bytes of a record.
@@ -17,7 +17,7 @@ const FIELDS: usize = 18;
 const LONGEST_BUFFER: usize = 512;
 
 // The line of a length.
-fn widths(n: usize, buffer: &mut [u8])
+fn widths(rt: &impl Print, n: usize, buffer: &mut [u8]) -> io::Result<()>
     requires { length buffer.old ≤ 512 }
 {
     let mut total: usize = 0;
@@ -30,51 +30,53 @@ fn widths(n: usize, buffer: &mut [u8])
         total += smaller(r.length, buffer.len());
         h = hash(buffer, h);
     }
-    field(n);
-    field(total);
-    last_field(h);
+    field(rt, n)?;
+    field(rt, total)?;
+    last_field(rt, h)
 }
 
-fn shapes(buffer: &mut [u8])
+fn shapes(rt: &impl Print, buffer: &mut [u8]) -> io::Result<()>
     requires { length buffer.old ≤ 512 }
 {
     let mut n: usize = 0;
     while n < LONGEST_SIDE {
         n += 1;
-        widths(n, buffer);
+        widths(rt, n, buffer)?;
     }
+    Ok(())
 }
 
 // The record at `at`; the buffer beyond its length is not lent to the call.
-fn one(s: &[u8], at: usize, buffer: &mut [u8])
+fn one(rt: &impl Print, s: &[u8], at: usize, buffer: &mut [u8]) -> io::Result<()>
     requires { at + 18 ≤ length s.now }
 {
     let n = records::eight(s, at);
     let w = records::eight(s, at + 8);
     let size = records::pair(s, at + 16);
     if buffer.len() < size {
-        return;
+        return Ok(());
     }
     records::stain(buffer);
     let r = hardest::hardest_box(Column(n), Track(w), &mut buffer[..size]);
-    records::refusal_fields(r.refusal);
-    field(r.length);
-    last_field(hash(buffer, 0));
+    records::refusal_fields(rt, r.refusal)?;
+    field(rt, r.length)?;
+    last_field(rt, hash(buffer, 0))
 }
 
-fn all(s: &[u8], buffer: &mut [u8]) {
+fn all(rt: &impl Print, s: &[u8], buffer: &mut [u8]) -> io::Result<()> {
     let mut at = 0;
     while FIELDS <= s.len() - at {
-        one(s, at, buffer);
+        one(rt, s, at, buffer)?;
         at += FIELDS;
     }
+    Ok(())
 }
 
-fn main() {
+fn main(rt: HostRuntime) -> io::Result<()> {
     let mut ticket = [0u8; MOST_OUTPUT];
-    shapes(&mut ticket);
-    let mut input = io::large_buffer();
+    shapes(&rt, &mut ticket)?;
+    let mut input = [0u8; records::MOST_INPUT];
     let mut buffer = [0u8; LONGEST_BUFFER];
-    let n = io::read_full(STDIN_FILENO, &mut input);
-    all(&input[..n], &mut buffer);
+    let n = records::read_full(&mut rt.stdin(), &mut input)?;
+    all(&rt, &input[..n], &mut buffer)
 }

@@ -2,11 +2,11 @@
 // and place of the wiring, and 1 where the bytes outside it were kept.
 #![tactic(auto)]
 
-ghost use Rattle.std.specs.Prelude.{◌≤◌, length};
+ghost use Rattle.std.specs.Prelude.{◌≤◌, length, IfOk};
 
-use libc::STDIN_FILENO;
 use records::{STAIN, field, refusal_fields};
 use router::LayAnswer;
+use std::io;
 use terms::{Refusal, wide};
 
 // The bytes of a record after its ticket.
@@ -30,17 +30,17 @@ fn is_kept(buffer: &[u8], from: usize) -> bool {
     true
 }
 
-fn show_answer(a: LayAnswer) {
-    refusal_fields(a.refusal);
-    field(wide(a.kind));
-    field(grid::column_count(a.n));
-    field(grid::track_count(a.w));
-    field(grid::layer_count(a.k));
-    field(flag(a.first));
-    field(wide(a.nets));
-    field(a.across);
-    field(a.up);
-    field(grid::layer_count(a.floor));
+fn show_answer(rt: &impl Print, a: LayAnswer) -> io::Result<()> {
+    refusal_fields(rt, a.refusal)?;
+    field(rt, wide(a.kind))?;
+    field(rt, grid::column_count(a.n))?;
+    field(rt, grid::track_count(a.w))?;
+    field(rt, grid::layer_count(a.k))?;
+    field(rt, flag(a.first))?;
+    field(rt, wide(a.nets))?;
+    field(rt, a.across)?;
+    field(rt, a.up)?;
+    field(rt, grid::layer_count(a.floor))
 }
 
 // How many bytes of the buffer the wiring takes: none after a refusal.
@@ -71,49 +71,55 @@ fn verdict(ticket: &[u8], a: LayAnswer, wiring: &[u8], size: usize, scratch: &mu
     checker::check(ticket, a.w, a.k, a.first, &wiring[..size], scratch)
 }
 
-fn show(ticket: &[u8], wiring: &mut [u8], scratch: &mut [u8]) {
+fn show(rt: &impl Print, ticket: &[u8], wiring: &mut [u8], scratch: &mut [u8]) -> io::Result<()> {
     records::stain(wiring);
     let a = router::lay(ticket, wiring);
     let size = taken(a, wiring.len());
-    show_answer(a);
-    refusal_fields(verdict(ticket, a, wiring, size, scratch));
-    records::last_field(flag(is_kept(wiring, size)));
+    show_answer(rt, a)?;
+    refusal_fields(rt, verdict(ticket, a, wiring, size, scratch))?;
+    records::last_field(rt, flag(is_kept(wiring, size)))
 }
 
 // Shows the record that starts at `at`, and answers where it ends: at `at` itself where it is not whole.
-fn one(s: &[u8], at: usize, wiring: &mut [u8], scratch: &mut [u8]) -> usize
+fn one(
+    rt: &impl Print,
+    s: &[u8],
+    at: usize,
+    wiring: &mut [u8],
+    scratch: &mut [u8],
+) -> io::Result<usize>
     requires { at ≤ length s.now }
-    ensures { result ≤ length s.now }
+    ensures { IfOk result (λ next. next ≤ length s.now) }
 {
     let r = records::record_at(s, at, FIELDS);
     let from = r.from;
     let end = r.end;
     if end <= at {
-        return at;
+        return Ok(at);
     }
     let size = records::triple(s, end);
     if wiring.len() < size {
-        return at;
+        return Ok(at);
     }
-    show(&s[from..end], &mut wiring[..size], scratch);
-    end + FIELDS
+    show(rt, &s[from..end], &mut wiring[..size], scratch)?;
+    Ok(end + FIELDS)
 }
 
-fn all(s: &[u8], wiring: &mut [u8], scratch: &mut [u8]) {
+fn all(rt: &impl Print, s: &[u8], wiring: &mut [u8], scratch: &mut [u8]) -> io::Result<()> {
     let mut at = 0;
     loop {
-        let next = one(s, at, wiring, scratch);
+        let next = one(rt, s, at, wiring, scratch)?;
         if next <= at {
-            return;
+            return Ok(());
         }
         at = next;
     }
 }
 
-fn main() {
-    let mut input = io::large_buffer();
+fn main(rt: HostRuntime) -> io::Result<()> {
+    let mut input = [0u8; records::MOST_INPUT];
     let mut wiring = [0u8; LONGEST_BUFFER];
     let mut scratch = [0u8; LONGEST_BUFFER];
-    let n = io::read_full(STDIN_FILENO, &mut input);
-    all(&input[..n], &mut wiring, &mut scratch);
+    let n = records::read_full(&mut rt.stdin(), &mut input)?;
+    all(&rt, &input[..n], &mut wiring, &mut scratch)
 }

@@ -1,13 +1,37 @@
-// What the vector programs share: their input cut into records, the numbers that stand in it, the fields of the lines that they print, and
-// a hash of what a call wrote.
+// What the programs share: their input, read up to a limit and cut into records, the numbers that stand in it, the fields of the lines
+// that they print, and a hash of what a call wrote.
 #![tactic(auto)]
 
-ghost use Rattle.std.specs.Prelude.{ℕ, ◌+◌, ◌^◌, ◌≤◌, ◌<◌, ◌≡◌, length, get_or};
+ghost use Rattle.std.specs.Prelude.{ℕ, ◌+◌, ◌^◌, ◌≤◌, ◌<◌, ◌≡◌, length, get_or, take, IfOk};
+ghost use Rattle.std.specs.Io.{ReadsAtMost};
+ghost use Rattle.std.specs.Io.KnownBytes.{Consumes, IsAtEnd};
 ghost use Rattle.terms.specs.Limits.{byte_values};
 ghost use Rattle.records.specs.Records.{number_at, Cut};
 
-use libc::STDOUT_FILENO;
+use std::io;
+use std::io::Read;
 use terms::{BYTE_VALUES, Refusal, entry_of, wide};
+
+// The most bytes of input that a program reads, where it says no other number.
+pub const MOST_INPUT: usize = 65536;
+
+// Reads until the buffer is full or the input ends, and answers how many bytes it put at the buffer's start. What comes after a full
+// buffer is not read.
+pub fn read_full<R: Read>(input: &mut R, buffer: &mut [u8]) -> io::Result<usize>
+    ensures inside { ReadsAtMost result buffer.new }
+    ensures bytes { IfOk result (λ n. Consumes (R.remaining input.old) (R.remaining input.new) (take n buffer.new)) }
+    ensures end { IfOk result (λ n. n < length buffer.new → IsAtEnd (R.remaining input.new)) }
+{
+    let mut done = 0;
+    while done < buffer.len() {
+        let count = input.read(&mut buffer[done..])?;
+        if count == 0 {
+            return Ok(done);
+        }
+        done += count;
+    }
+    Ok(done)
+}
 
 // Where a record's ticket stands: from byte `from` to the byte before `end`.
 #[derive(Clone, Copy)]
@@ -75,21 +99,19 @@ pub fn record_at(s: &[u8], at: usize, more: usize) -> Record
     Record { from, end }
 }
 
-pub fn field(x: usize) {
-    io::print_decimal(STDOUT_FILENO, x as u64);
-    io::write_all(STDOUT_FILENO, b" ");
+pub fn field(rt: &impl Print, x: usize) -> io::Result<()> {
+    print!(rt; "{x} ")
 }
 
 // The last field of a line.
-pub fn last_field(x: usize) {
-    io::print_decimal(STDOUT_FILENO, x as u64);
-    io::write_all(STDOUT_FILENO, b"\n");
+pub fn last_field(rt: &impl Print, x: usize) -> io::Result<()> {
+    println!(rt; "{x}")
 }
 
 // A refusal's number and place as the fields of a line that goes on.
-pub fn refusal_fields(r: Refusal) {
-    field(wide(r.number));
-    field(r.place);
+pub fn refusal_fields(rt: &impl Print, r: Refusal) -> io::Result<()> {
+    field(rt, wide(r.number))?;
+    field(rt, r.place)
 }
 
 // What a buffer holds before a call writes it.

@@ -7,10 +7,10 @@ use borrow.Author.Rules.{rules}
 use Rattle.board_timing.proofs.all_nets.Statement.{statement}
 use Rattle.board_timing.proofs.all_nets.Tie as tie
 
-abbrev invariant-loop : tie.invariant-loop
+abbrev invariant-loop : tie.invariant-loop-i
 invariant-loop round rising nets₀ i₀ nets i = (i ≤ largest_net) × (length nets ≡ largest_net)
 
-abbrev decreases-loop : tie.decreases-loop
+abbrev decreases-loop : tie.decreases-loop-i
 decreases-loop round rising nets₀ i₀ nets i = largest_net - i
 
 pub all_nets_spec : {M : Type 1} → statement M

@@ -4,10 +4,10 @@ use borrow.Author.Rules.{rules}
 use Rattle.board_timing.proofs.all_singly.Statement.{statement}
 use Rattle.board_timing.proofs.all_singly.Tie as tie
 
-abbrev invariant-loop : tie.invariant-loop
+abbrev invariant-loop : tie.invariant-loop-round
 invariant-loop board rounds last₀ round₀ last round = round ≤ rounds
 
-abbrev decreases-loop : tie.decreases-loop
+abbrev decreases-loop : tie.decreases-loop-round
 decreases-loop board rounds last₀ round₀ last round = rounds - round
 
 pub all_singly_spec : {M : Type 1} → statement M

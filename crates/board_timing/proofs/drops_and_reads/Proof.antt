@@ -4,10 +4,10 @@ use borrow.Author.Rules.{rules}
 use Rattle.board_timing.proofs.drops_and_reads.Statement.{statement}
 use Rattle.board_timing.proofs.drops_and_reads.Tie as tie
 
-abbrev invariant-loop : tie.invariant-loop
+abbrev invariant-loop : tie.invariant-loop-round
 invariant-loop board rounds last₀ figures₀ round₀ last figures round = round ≤ rounds
 
-abbrev decreases-loop : tie.decreases-loop
+abbrev decreases-loop : tie.decreases-loop-round
 decreases-loop board rounds last₀ figures₀ round₀ last figures round = rounds - round
 
 pub drops_and_reads_spec : {M : Type 1} → statement M

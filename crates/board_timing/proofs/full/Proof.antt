@@ -5,10 +5,10 @@ use borrow.Author.Rules.{rules}
 use Rattle.board_timing.proofs.full.Statement.{statement}
 use Rattle.board_timing.proofs.full.Tie as tie
 
-abbrev invariant-loop : tie.invariant-loop
+abbrev invariant-loop : tie.invariant-loop-net
 invariant-loop board₀ net₀ board net = net ≤ largest_net
 
-abbrev decreases-loop : tie.decreases-loop
+abbrev decreases-loop : tie.decreases-loop-net
 decreases-loop board₀ net₀ board net = largest_net - net
 
 pub full_spec : {M : Type 1} → statement M

@@ -4,10 +4,10 @@ use borrow.Author.Rules.{rules}
 use Rattle.board_timing.proofs.surveys.Statement.{statement}
 use Rattle.board_timing.proofs.surveys.Tie as tie
 
-abbrev invariant-loop : tie.invariant-loop
+abbrev invariant-loop : tie.invariant-loop-round
 invariant-loop ticket rounds last₀ round₀ last round = round ≤ rounds
 
-abbrev decreases-loop : tie.decreases-loop
+abbrev decreases-loop : tie.decreases-loop-round
 decreases-loop ticket rounds last₀ round₀ last round = rounds - round
 
 pub surveys_spec : {M : Type 1} → statement M

@@ -5,10 +5,10 @@ use borrow.Author.Rules.{rules}
 use Rattle.board_timing.proofs.without_each.Statement.{statement}
 use Rattle.board_timing.proofs.without_each.Tie as tie
 
-abbrev invariant-loop : tie.invariant-loop
+abbrev invariant-loop : tie.invariant-loop-i
 invariant-loop nets left₀ i₀ left i = i ≤ length nets
 
-abbrev decreases-loop : tie.decreases-loop
+abbrev decreases-loop : tie.decreases-loop-i
 decreases-loop nets left₀ i₀ left i = length nets - i
 
 pub without_each_spec : {M : Type 1} → statement M

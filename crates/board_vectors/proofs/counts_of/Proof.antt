@@ -4,10 +4,10 @@ use borrow.Author.Rules.{rules}
 use Rattle.board_vectors.proofs.counts_of.Statement.{statement}
 use Rattle.board_vectors.proofs.counts_of.Tie as tie
 
-abbrev invariant-loop : tie.invariant-loop
+abbrev invariant-loop : tie.invariant-loop-c
 invariant-loop board counts₀ c₀ counts c = c ≤ 98
 
-abbrev decreases-loop : tie.decreases-loop
+abbrev decreases-loop : tie.decreases-loop-c
 decreases-loop board counts₀ c₀ counts c = 98 - c
 
 pub counts_of_spec : {M : Type 1} → statement M

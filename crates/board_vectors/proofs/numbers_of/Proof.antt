@@ -6,10 +6,10 @@ use borrow.Author.Rules.{rules}
 use Rattle.board_vectors.proofs.numbers_of.Statement.{statement}
 use Rattle.board_vectors.proofs.numbers_of.Tie as tie
 
-abbrev invariant-loop : tie.invariant-loop
+abbrev invariant-loop : tie.invariant-loop-i
 invariant-loop body size numbers₀ at₀ i₀ numbers at i = (i ≤ 512) × (at ≤ length body) × (length numbers ≡ 512)
 
-abbrev decreases-loop : tie.decreases-loop
+abbrev decreases-loop : tie.decreases-loop-i
 decreases-loop body size numbers₀ at₀ i₀ numbers at i = 512 - i
 
 pub numbers_of_spec : {M : Type 1} → statement M

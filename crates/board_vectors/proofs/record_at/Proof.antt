@@ -5,7 +5,7 @@ use borrow.Author.Rules.{rules}
 use Rattle.board_vectors.proofs.record_at.Statement.{statement}
 use Rattle.board_vectors.proofs.record_at.Tie as tie
 
-mul-bytes : tie.Need-overflow-mul-bytes
+mul-bytes : tie.Need-overflow_mul-bytes
 mul-bytes c = record { fits = lt_of_le_of_lt (mul-le-mul {n₂ = 8} {m₂ = 512} (search rules) (search rules)) (omega arith) }
 
 pub record_at_spec : {M : Type 1} → statement M

@@ -6,7 +6,7 @@ use borrow.Author.Rules.{rules}
 use Rattle.board_vectors.proofs.write.Statement.{statement}
 use Rattle.board_vectors.proofs.write.Tie as tie
 
-slice-aggregate-write-ticket : tie.Need-slice-aggregate-write-ticket
+slice-aggregate-write-ticket : tie.Need-slice_bounds-write_ticket-end-2
 slice-aggregate-write-ticket c = sym (length-take-le _ _ (omega arith))
 
 pub write_spec : {M : Type 1} → statement M

@@ -7,8 +7,8 @@ use Rattle.records.proofs.eight.Tie as tie
 
 returns : tie.Need-returns
 returns c =
-    let a = c.before.before.before.args in
-    omega (arith, c.four2.ensures.0, c.before.four.ensures.0, four_more a.s.now a.at)
+    let a = c.args in
+    omega (arith, c.four-2.ensures.0, c.four.ensures.0, four_more a.s.now a.at)
 
 pub eight_spec : {M : Type 1} → statement M
 eight_spec =

@@ -7,9 +7,9 @@ use Rattle.records.proofs.four.Tie as tie
 
 returns : tie.Need-returns
 returns c =
-    let a = c.before.before.before.args in (
-      omega (arith, c.pair2.ensures.0, c.before.pair.ensures.0, two_more a.s.now a.at 2),
-      omega (arith, c.pair2.ensures.1, c.before.pair.ensures.1),
+    let a = c.args in (
+      omega (arith, c.pair-2.ensures.0, c.pair.ensures.0, two_more a.s.now a.at 2),
+      omega (arith, c.pair-2.ensures.1, c.pair.ensures.1),
     )
 
 pub four_spec : {M : Type 1} → statement M

@@ -5,10 +5,10 @@ use borrow.Author.Rules.{rules}
 use Rattle.records.proofs.hash.Statement.{statement}
 use Rattle.records.proofs.hash.Tie as tie
 
-abbrev invariant-loop : tie.invariant-loop
+abbrev invariant-loop : tie.invariant-loop-i
 invariant-loop bytes from h₀ i₀ h i = (i ≤ length bytes) × (h < 1000003)
 
-abbrev decreases-loop : tie.decreases-loop
+abbrev decreases-loop : tie.decreases-loop-i
 decreases-loop bytes from h₀ i₀ h i = length bytes - i
 
 pub hash_spec : {M : Type 1} → statement M

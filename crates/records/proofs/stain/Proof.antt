@@ -10,19 +10,19 @@ use lib.Seq.{get_or-set_same, get_or-set_other}
 use Rattle.records.proofs.stain.Statement.{statement}
 use Rattle.records.proofs.stain.Tie as tie
 
-abbrev invariant-loop : tie.invariant-loop
+abbrev invariant-loop : tie.invariant-loop-i
 invariant-loop buffer₀ i₀ i-end buffer i =
     (i ≤ length buffer₀) × (length buffer ≡ length buffer₀) × ((k : ℕ) → k < i → get_or buffer k 0 ≡ 170)
 
-abbrev decreases-loop : tie.decreases-loop
+abbrev decreases-loop : tie.decreases-loop-i
 decreases-loop buffer₀ i₀ i-end buffer i = length buffer₀ - i
 
-loop-holds : tie.Need-loop-init invariant-loop decreases-loop
+loop-holds : tie.Need-loop-i-init invariant-loop decreases-loop
 loop-holds c = (omega arith, refl, λ k h. absurd (not-suc-le-zero h))
 
-loop-again : tie.Need-loop-preserved invariant-loop decreases-loop
+loop-again : tie.Need-loop-i-preserved invariant-loop decreases-loop
 loop-again c =
-    let l = c.before.loop in (
+    let l = c.loop-i in (
       omega arith,
       simp length-set l.invariant.1,
       below_more (λ k. get_or (set l.buffer l.i 170) k 0 ≡ 170) l.i
@@ -31,7 +31,7 @@ loop-again c =
     )
 
 returns : tie.Need-returns invariant-loop decreases-loop
-returns c = let l = c.before.loop in λ i h. l.invariant.2 i (omega arith)
+returns c = let l = c.loop-i in λ i h. l.invariant.2 i (omega arith)
 
 pub stain_spec : {M : Type 1} → statement M
 stain_spec =
