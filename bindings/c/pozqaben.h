@@ -1,6 +1,6 @@
 /* Pozqaben: a router for rows, channels and boxes, and a checker of wirings.
  *
- * Link target/staticlib/libpozqaben.a, which `rt staticlib pozqaben` builds at the top of the repository (x86-64 Linux).
+ * Link target/staticlib/libpozqaben.a, which `tools/build staticlib` builds at the top of the repository (x86-64 Linux).
  *
  * Each call writes its answer, number by number, into an array that the caller lends, and returns true. Where the array
  * has fewer than the entries named below, it returns false and alters nothing at all. Entries past those are untouched.

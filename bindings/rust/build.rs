@@ -8,7 +8,7 @@ fn main() {
     let library = folder.join("libpozqaben.a");
     println!("cargo:rerun-if-changed={}", library.display());
     if !library.is_file() {
-        eprintln!("{} is missing: run `rt staticlib pozqaben` at the top of the repository first", library.display());
+        eprintln!("{} is missing: run `tools/build staticlib` at the top of the repository first", library.display());
         std::process::exit(1);
     }
     println!("cargo:rustc-link-search=native={}", folder.display());

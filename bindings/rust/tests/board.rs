@@ -13,7 +13,7 @@ const LONGEST_INPUT: usize = 65536;
 fn printed(input: &[u8]) -> String {
     assert!(input.len() <= LONGEST_INPUT);
     let program = Path::new(env!("CARGO_MANIFEST_DIR")).join("../../target/bin/board_vectors");
-    assert!(program.is_file(), "{} is missing: run `rt check board_vectors` at the top of the repository first", program.display());
+    assert!(program.is_file(), "{} is missing: run `tools/build board_vectors` at the top of the repository first", program.display());
     let mut child = Command::new(program).stdin(Stdio::piped()).stdout(Stdio::piped()).spawn().expect("the program starts");
     let mut pipe = child.stdin.take().expect("a pipe");
     let output = std::thread::scope(|s| {

@@ -72,7 +72,7 @@ fn program() -> PathBuf {
 pub fn table() {
     let program = program();
     if !program.is_file() {
-        println!("\nNo table of boards: run `rt check board_timing` at the top of the repository first.");
+        println!("\nNo table of boards: run `tools/build board_timing` at the top of the repository first.");
         return;
     }
     let modes = [Mode::Drop, Mode::DropAndAdd, Mode::Survey, Mode::DropAndRead, Mode::DropAll, Mode::DropEach];
