@@ -1,11 +1,16 @@
 -- The input of the vector programs: records, each a length of two bytes, so many bytes of a ticket, and what the program asks for beside
 -- it.
 --
---   number_at s b count      the number of count bytes at byte b, low byte first
+--   number_at s b count     the number of count bytes at byte b, low byte first
 --   ticket_end s b          where the ticket of the record that starts at byte b ends
 --   record_at s b more      where that ticket stands; nothing at b where it and more bytes after it are not whole
 --   Cut s b more r          r is that record, and in bounds: where it does not end at b itself, more bytes follow
-use Rattle.std.specs.Prelude.{ℕ, zero, suc, ◌+◌, ◌*◌, ◌≤◌, max, cond, List, ◌≡◌, leb, length, get_or}
+--   HoldsWhatWasRead old new bytes
+--                           of an input, the bytes that were to come, `old`, are now `new`, as far as they are known; those between stand
+--                           at the start of bytes, however many they are
+use Rattle.std.specs.Prelude.{ℕ, zero, suc, ◌+◌, ◌*◌, ◌≤◌, max, cond, List, ◌≡◌, leb, length, get_or, take}
+use Rattle.std.specs.Io.KnownBytes.{Consumes}
+use Rattle.std.specs.declared.option.Option.{Option}
 use Rattle.terms.specs.Limits.{byte_values}
 use Rattle.records.specs.declared.Record.{Record}
 
@@ -28,3 +33,6 @@ pub record Cut (s : List ℕ) (b more : ℕ) (r : Record) : Type 0 where
   pub ends : b ≤ r.end
   pub inside : r.end ≤ length s
   pub room : r.end + more ≤ max (b + more) (length s)
+
+abbrev pub HoldsWhatWasRead : Option (List ℕ) → Option (List ℕ) → List ℕ → Type 0
+HoldsWhatWasRead old new bytes = (n : ℕ) × (n ≤ length bytes) × Consumes old new (take n bytes)

@@ -2,11 +2,11 @@
 // that they print, and a hash of what a call wrote.
 #![tactic(auto)]
 
-ghost use Rattle.std.specs.Prelude.{ℕ, ◌+◌, ◌^◌, ◌≤◌, ◌<◌, ◌≡◌, length, get_or, take, IfOk};
+ghost use Rattle.std.specs.Prelude.{ℕ, ◌+◌, ◌^◌, ◌≤◌, ◌<◌, ◌≡◌, length, get_or, take, IfOk, IfErr};
 ghost use Rattle.std.specs.Io.{ReadsAtMost};
 ghost use Rattle.std.specs.Io.KnownBytes.{Consumes, IsAtEnd};
 ghost use Rattle.terms.specs.Limits.{byte_values};
-ghost use Rattle.records.specs.Records.{number_at, Cut};
+ghost use Rattle.records.specs.Records.{number_at, Cut, HoldsWhatWasRead};
 
 use std::io;
 use std::io::Read;
@@ -16,11 +16,12 @@ use terms::{BYTE_VALUES, Refusal, entry_of, wide};
 pub const MOST_INPUT: usize = 65536;
 
 // Reads until the buffer is full or the input ends, and answers how many bytes it put at the buffer's start. What comes after a full
-// buffer is not read.
+// buffer is not read. An error is that of a read: what was read before it stands at the buffer's start. (For our own crates.)
 pub fn read_full<R: Read>(input: &mut R, buffer: &mut [u8]) -> io::Result<usize>
     ensures inside { ReadsAtMost result buffer.new }
     ensures bytes { IfOk result (λ n. Consumes (R.remaining input.old) (R.remaining input.new) (take n buffer.new)) }
     ensures end { IfOk result (λ n. n < length buffer.new → IsAtEnd (R.remaining input.new)) }
+    ensures failed { IfErr result (λ _. HoldsWhatWasRead (R.remaining input.old) (R.remaining input.new) buffer.new) }
 {
     let mut done = 0;
     while done < buffer.len() {
