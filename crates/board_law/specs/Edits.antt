@@ -1,27 +1,27 @@
 -- A board's calls, one at a time, in the words of document 02's jobs 7 and 9. A board holds a problem: its kind, its shape and its pins.
 --
---   is_board_kind kind        "The kind is 1 to 3"
+--   is_board_kind kind         "The kind is 1 to 3"
 --   start_refusal kind n byte2 "An impossible kind, shape .. gets 2, 3, 4 .., first, at place 0"
---   fresh kind n byte2        a board of this kind and shape "starts without pins"
+--   fresh kind n byte2         a board of this kind and shape "starts without pins"
 --   start_problem kind n byte2 what a start gives: the fresh board, or "A refused start gives a fresh row board, n 1, h 1"
---   is_there p m              net m has a pin: "the net is already there"
---   is_free q p v             the number is a place of the board, by its kind and shape, that is not "filled" where the pins are p
---   first_wrong free earlier l the first index of the list at which there is no free place, or one of the earlier ones: "a place outside the
---                             board's sides, filled, or the same as an earlier one in the list"; the list's length where there is none
+--   is_there p m               net m has a pin: "the net is already there"
+--   is_free q p v              the number is a place of the board, by its kind and shape, that is not "filled" where the pins are p
+--   first_wrong free earlier l the first index of the list at which there is no free place, or one of the earlier ones: "a place outside
+--                              the board's sides, filled, or the same as an earlier one in the list"; the list's length where there is none
 --   add_refusal there free m l "net number gets .. 7, first, at place 0"; "Errors: 20 (place: the net), the net is already there; then 21
---                             (place: the list's length), fewer than two places, or else (place: the first such index) .."
---   first_absent there l      the first index of the list at which there is no net that is there, "a number outside 1 to 180 being
---                             absent"; the list's length where there is none
---   first_repeat l            the first index of the list at which there is one of the earlier ones; the list's length where there is none
---   drop_refusal there l      "Errors: 22 with the first absent net in list order ..; only if all are present, 23 (place: index of the
---                             first repeat)"
---   with_net p m l            "Adding gives a net number and a list of places": the pins p and net m at the places of the list
---   without_nets p l          "Dropping takes a list of nets", "dropping takes a net away whole": the pins p but those of the list's nets
---   Sound q                   what every board holds: a good problem of a board's kind, whose lists have an entry for each place
---   Becomes q p q'            q' is q with the pins p
---   NetAdded q m l r q'       adding net m at the places l to a board that holds q: the call's refusal is r and the board then holds q'; "A
---                             refused call leaves the board as it found it"
---   NetsDropped q l r q'      the same of dropping the nets of the list l: "drops all or none"
+--                              (place: the list's length), fewer than two places, or else (place: the first such index) .."
+--   first_absent there l       the first index of the list at which there is no net that is there, "a number outside 1 to 180 being
+--                              absent"; the list's length where there is none
+--   first_repeat l             the first index of the list at which there is one of the earlier ones; the list's length where there is none
+--   drop_refusal there l       "Errors: 22 with the first absent net in list order ..; only if all are present, 23 (place: index of the
+--                              first repeat)"
+--   with_net p m l             "Adding gives a net number and a list of places": the pins p and net m at the places of the list
+--   without_nets p l           "Dropping takes a list of nets", "dropping takes a net away whole": the pins p but those of the list's nets
+--   Sound q                    what every board holds: a good problem of a board's kind, whose lists have an entry for each place
+--   Becomes q p q'             q' is q with the pins p
+--   NetAdded q m l r q'        adding net m at the places l to a board that holds q: the call's refusal is r and the board then holds q';
+--                              "A refused call leaves the board as it found it"
+--   NetsDropped q l r q'       the same of dropping the nets of the list l: "drops all or none"
 use Rattle.std.specs.Prelude.{ℕ, suc, ◌≡◌, Bool, true, false, cond, not, ◌&&◌, List, [], ◌∷◌, ◌++◌, eqb, leb, length, get_or}
 use Rattle.counting.specs.Counting.{In}
 use Rattle.terms.specs.Limits.{longest_side, largest_net, within}

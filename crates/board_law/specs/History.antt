@@ -2,22 +2,22 @@
 -- since dropped, and across, up and floor are those that a survey of its ticket gives" (document 02, job 7); "every stored figure equals
 -- the definition" (job 8). The law is `history` of proofs/History.antt.
 --
---   Call                 a call on a board: adding a net at a list of places, or dropping a list of nets
---   NetPlaces            the nets that are there: for each its list of places, which is empty where the net is not there
---   no_nets              "starts without pins"
---   is_in ns m           net m is there
+--   Call                  a call on a board: adding a net at a list of places, or dropping a list of nets
+--   NetPlaces             the nets that are there: for each its list of places, which is empty where the net is not there
+--   no_nets               "starts without pins"
+--   is_in ns m            net m is there
 --   is_taken ns v         one of the nets has the place v: it is "filled"
---   is_open q ns v       v is a place of the board, by its kind and shape, that no net has
---   changed ns m l       the nets, with the list l for net m
---   emptied ns l         the nets, with no place for those of the list l
+--   is_open q ns v        v is a place of the board, by its kind and shape, that no net has
+--   changed ns m l        the nets, with the list l for net m
+--   emptied ns l          the nets, with no place for those of the list l
 --   after_call q ns c     the nets after a call: a net that is added has the places that the call lists, those that are dropped have
---                        none, and "A refused call leaves the board as it found it"
---   nets_after q ns cs   the nets after a list of calls, the first call first
---   BoardState           what a board holds: a problem, and the stored figures of columns and tracks
---   Fresh kind n byte2 b what a board of this kind and shape may hold when it starts
---   CountsKept b b'      a call that leads from b to b' keeps the stored figures true
---   LeadsTo b cs b'      a board that held b holds b' after the calls cs, each of which kept its contract
---   Kept q₀ q ns         what a board that started as q₀ holds, where the nets are ns:
+--                         none, and "A refused call leaves the board as it found it"
+--   nets_after q ns cs    the nets after a list of calls, the first call first
+--   BoardState            what a board holds: a problem, and the stored figures of columns and tracks
+--   Fresh kind n byte2 b  what a board of this kind and shape may hold when it starts
+--   CountsKept b b'       a call that leads from b to b' keeps the stored figures true
+--   LeadsTo b cs b'       a board that held b holds b' after the calls cs, each of which kept its contract
+--   Kept q₀ q ns          what a board that started as q₀ holds, where the nets are ns:
 --     kind, n, byte2       "A board has a kind and a shape", and no call changes them
 --     pins, places         "the pins are those of the nets": the net at a place has it on its list, and no other has; every place on
 --                          a list is a place of the board
@@ -27,7 +27,7 @@
 --     several              "Each net has at least two pins"
 --     read                 Read accepts the board's ticket, as the problem that the board holds
 --     surveyed             "across, up and floor are those that a survey of its ticket gives": Survey's answer to the ticket
---   KeptCounts b         what is stored after a list of calls:
+--   KeptCounts b          what is stored after a list of calls:
 --     counted              "every stored figure equals the definition as Job 6 left it"
 --     small                no stored figure is above the largest net's number, so that a byte holds each
 --     across, up, floor    what is read off the stored figures is Survey's

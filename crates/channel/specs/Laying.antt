@@ -1,11 +1,11 @@
 -- The laying under way, as the inner functions' contracts cite it. The promise is in Laid.
 --
 --   plan_of t w                     the trunk places as tracks of layers: place p is track p mod w + 1 of trunk layer p div w
---   comb a b l i                   what a vertical layer l holds in column i: layers 1, 5, 9.. the pins a, layers 3, 7, 11.. the pins b
---   base a b                       the wiring with its combs and without its trunks
---   Seated plan g                  each trunk lies on a horizontal layer of the grid, and no two share a point
---   Crossed plan g before after t  the trunks of nets 1 to t are laid: the horizontal layers hold them and nothing else,
---                                  the vertical ones what they held
+--   comb a b l i                    what a vertical layer l holds in column i: layers 1, 5, 9.. the pins a, layers 3, 7, 11.. the pins b
+--   base a b                        the wiring with its combs and without its trunks
+--   Seated plan g                   each trunk lies on a horizontal layer of the grid, and no two share a point
+--   Crossed plan g before after t   the trunks of nets 1 to t are laid: the horizontal layers hold them and nothing else,
+--                                   the vertical ones what they held
 use Rattle.std.specs.Prelude.{ℕ, ◌+◌, ◌*◌, ◌/◌, ◌%◌, ◌≤◌, ◌≡◌, cond, List, length, get_or, eqb}
 use Rattle.grid.specs.Grid.{Grid, point, Inside}
 use Rattle.grid.specs.Legal.{Wiring, wiring_of, entry}

@@ -1,30 +1,30 @@
 -- What the functions that compute across and up keep: where each net that crosses columns begins and ends. No promise of a public call
 -- cites it; proofs/Across ties it to `across` and `up`.
 --
---   at list i               entry i of a list, counted from 0 as the code does
---   nowhere                 past every column: where a net that stays in one place begins and ends, and so does an empty place, entry 0
---   PerNet v f k list       entry 0 is v, and entry m is f m, for the nets 1 to k
+--   at list i                entry i of a list, counted from 0 as the code does
+--   nowhere                  past every column: where a net that stays in one place begins and ends, and so does an empty place, entry 0
+--   PerNet v f k list        entry 0 is v, and entry m is f m, for the nets 1 to k
 --   stays_at first last near far
---                           of a net's first and last column and of how many pins it has on the near and the far side: it has pins at
---                           one of the columns 1 to n alone, or none
+--                            of a net's first and last column and of how many pins it has on the near and the far side: it has pins at
+--                            one of the columns 1 to n alone, or none
 --   begin_of, end_of first last near far past
---                           the net's least and greatest place along the grid, or nowhere where it stays. So one whose pins are all on the
---                           near side, at 0, begins and ends at 0, and one whose pins are all on the far side, at `past`, at `past`
---   Way n x y               what a net that begins at x and ends at y does
---   comes_to from to m      net m begins on the near side and goes on from there
+--                            the net's least and greatest place along the grid, or nowhere where it stays. So one whose pins are all on the
+--                            near side, at 0, begins and ends at 0, and one whose pins are all on the far side, at `past`, at `past`
+--   Way n x y                what a net that begins at x and ends at y does
+--   comes_to from to m       net m begins on the near side and goes on from there
 --   EndsCounted from to past k coming near far
---                           of the nets 1 to k: how many do, how many begin on the near side, and how many end on the far side
---   EndsAt a b n from to    a net that begins or ends at one of the columns 1 to n has a pin there, and goes a way
---   goes_over from to c m   net m begins at column c or before it, and ends there or past it
---   box_over from to n c m  the same of a box: at column 1 also a net that ends on the near side, at column n one that begins on the far
---                           side
---   now_at list m k c       how many of the nets m and k have the entry c; if they are one net, it is counted once
+--                            of the nets 1 to k: how many do, how many begin on the near side, and how many end on the far side
+--   EndsAt a b n from to     a net that begins or ends at one of the columns 1 to n has a pin there, and goes a way
+--   goes_over from to c m    net m begins at column c or before it, and ends there or past it
+--   box_over from to n c m   the same of a box: at column 1 also a net that ends on the near side, at column n one that begins on the far
+--                            side
+--   now_at list m k c        how many of the nets m and k have the entry c; if they are one net, it is counted once
 --   AlongSides a b first last n  two sides of n places hold nets, and the lists have the first and the last place of each
 --   Crossed boxed a b near far n r
---                           r is across, where a and b are north and south, and near and far have the pins of each net on west and east; of
---                           a box, if boxed; and then it is up, where they are west and east, and south and north
+--                            r is across, where a and b are north and south, and near and far have the pins of each net on west and east;
+--                            of a box, if boxed; and then it is up, where they are west and east, and south and north
 --   UpFor kind a b near far n r
---                           r is up of a box, where a and b are west and east, and near and far have the pins on south and north
+--                            r is up of a box, where a and b are west and east, and near and far have the pins on south and north
 --   tables_of, spans_from    the table of spans whose lists are these
 use Rattle.std.specs.Prelude.{ℕ, ◌+◌, ◌≤◌, ◌<◌, max, ◌≡◌, Bool, true, cond, not, ◌&&◌, ◌||◌, List, eqb, leb, length, get_or}
 use Rattle.counting.specs.Counting.{In, bit, count}

@@ -1,20 +1,20 @@
 -- Tickets turned flat and flat ones turned into tickets (document 02, job 4): the calls' answers and their whole promise, said once for
 -- both directions.
 --
---   Form                 a way to write a problem down: what a list of bytes states, or its first refusal; and the bytes of a problem
+--   Form                   a way to write a problem down: what a list of bytes states, or its first refusal; and the bytes of a problem
 --   ticket_form, flat_form the two ways
---   converted from to s  the bytes in the form `to` of what the bytes s state in the form `from`: "Convert either way"
+--   converted from to s    the bytes in the form `to` of what the bytes s state in the form `from`: "Convert either way"
 --   converted_answer from to s size
---                        the answer where the lent buffer has so many bytes: "Errors: only 19, after the ticket's own"; else "the length
---                        written"
+--                          the answer where the lent buffer has so many bytes: "Errors: only 19, after the ticket's own"; else "the length
+--                          written"
 --   Converts from to s before after r
---                        the promise of a call that answers r and leaves the buffer, which was before, as after:
---     answer             number, place and length
---     untouched          "a refused one alters no lent byte"
---     past               "bytes past the answer stay"
---     bytes              what is written is s in the form `to`
---     same               if s is accepted, that states what s states: kind, n, byte 2, the number of nets and every pin
---     back               if s is accepted: "A ticket turned flat and back is the same bytes, and so is a flat one turned and back"
+--                          the promise of a call that answers r and leaves the buffer, which was before, as after:
+--     answer               number, place and length
+--     untouched            "a refused one alters no lent byte"
+--     past                 "bytes past the answer stay"
+--     bytes                what is written is s in the form `to`
+--     same                 if s is accepted, that states what s states: kind, n, byte 2, the number of nets and every pin
+--     back                 if s is accepted: "A ticket turned flat and back is the same bytes, and so is a flat one turned and back"
 use Rattle.std.specs.Prelude.{ℕ, ◌≡◌, ◌≢◌, List, length, drop}
 use Rattle.terms.specs.Refusals.{accepted, unless}
 use Rattle.problem.specs.declared.Problem.{Problem}

@@ -1,18 +1,18 @@
 -- The table of spans as the code keeps it, figure by figure: an entry for each net, and 0 at entry 0. No promise of a public call cites it.
 --
---   pin_count_to a n m       how many of the places 1 to n of side a hold m
+--   pin_count_to a n m         how many of the places 1 to n of side a hold m
 --   first_held, last_held a b n m
---                            the first and the last place from 1 to n at which one of two sides across from each other holds m, or 0
---   NetTable f list          entry m of the list is f m, for each net m
---   blank_table, blank_spans  the tables of no pins
---   Tabled a b n t           what two sides of n places each tell of each net
---   SpansOf q t              the table of a problem's spans
---   Spanned q ..             the lists of it that tell a span: first and last column, and the pins on each side
---   pin_sum a b c d m        net m's pins, from the lists of how many each side holds
+--                              the first and the last place from 1 to n at which one of two sides across from each other holds m, or 0
+--   NetTable f list            entry m of the list is f m, for each net m
+--   blank_table, blank_spans   the tables of no pins
+--   Tabled a b n t             what two sides of n places each tell of each net
+--   SpansOf q t                the table of a problem's spans
+--   Spanned q ..               the lists of it that tell a span: first and last column, and the pins on each side
+--   pin_sum a b c d m          net m's pins, from the lists of how many each side holds
 --   low_of, high_of            the least and the greatest place along the grid, from the first and the last between its ends and from how
---                            many pins are on the near side, at 0, and on the far side, at `past`
---   span_from .. m n         net m's span, read from these lists
---   Numbered side            the side holds nets or 0
+--                              many pins are on the near side, at 0, and on the far side, at `past`
+--   span_from .. m n           net m's span, read from these lists
+--   Numbered side              the side holds nets or 0
 use Rattle.std.specs.Prelude.{ℕ, zero, suc, ◌+◌, ◌≤◌, ◌≡◌, Bool, cond, ◌||◌, List, eqb, length, get_or, replicate}
 use Rattle.counting.specs.Counting.{In, count, least}
 use Rattle.terms.specs.Limits.{largest_net, net_entries}

@@ -1,17 +1,17 @@
 -- The problem that a ticket states: kind, n, byte 2, the number of nets, and the pins. What follows a reading speaks of it alone.
 --
---   pins_in ps        the four lists as the grid's pins
+--   pins_in ps         the four lists as the grid's pins
 --   pin_count_on p m s, pin_count p m
---                     how many pins hold net m, on side s and on all
---   net_count p       "the number of nets": how many have a pin
+--                      how many pins hold net m, on side s and on all
+--   net_count p        "the number of nets": how many have a pin
 --   filled_on p s, filled p
---                     "pins P (all of them)": how many places hold a pin, on side s and on all
---   lone_net p        "a net with one pin (the smallest such net)", 0 where there is none
+--                      "pins P (all of them)": how many places hold a pin, on side s and on all
+--   lone_net p         "a net with one pin (the smallest such net)", 0 where there is none
 --   width_of q         "for a box, its w"; the other kinds have no width of their own, and 1 stands there
 --   shape_of q         a grid of the problem's length and width; its layers play no part
---   Another g p s a   a pin of the grid that holds the net at place a of side s and is another; "Each net has at least two pins."
---   Good q            what every ticket that Read accepts states: the header's ranges, and pins that are nets or empty, none past a
---                     side's end, none on a side that the kind lacks, no net with one pin
+--   Another g p s a    a pin of the grid that holds the net at place a of side s and is another; "Each net has at least two pins."
+--   Good q             what every ticket that Read accepts states: the header's ranges, and pins that are nets or empty, none past a
+--                      side's end, none on a side that the kind lacks, no net with one pin
 use Rattle.std.specs.Prelude.{ℕ, ◌+◌, ◌≤◌, ◌<◌, ◌≡◌, ◌≢◌, true, false, leb, eqb}
 use Rattle.counting.specs.Counting.{In, count, least}
 use Rattle.terms.specs.Limits.{longest_side, largest_net}

@@ -1,31 +1,31 @@
 -- Lay, given ticket and wiring buffer: its answer, and its whole promise.
 --
 --   first_of q          "First direction is a yes or no, yes where layer 1 is horizontal": for a box "vertical where n ≥ w, otherwise
---                      horizontal"; else "first vertical"
---   laid_width q       the tracks: those of its figures; for a two-layer channel those that its operations need, a number that the pins
---                      alone tell
---   needed q           "n × w × k"
---   is_solid q         the ticket is a two-layer channel, and solid
+--                       horizontal"; else "first vertical"
+--   laid_width q        the tracks: those of its figures; for a two-layer channel those that its operations need, a number that the pins
+--                       alone tell
+--   needed q            "n × w × k"
+--   is_solid q          the ticket is a two-layer channel, and solid
 --   answered, laid_answer q  "The answer carries kind, n, w, k, first direction, number of nets, across, and for a box up and floor (0
 --                            for the other kinds)"
---   refused r          "Each refusal is a number and a place .. the answer's other fields are 0", "a refusal gives no"
---   lay_good q size    Lay's answer to a problem, the buffer having so many bytes: "17 (place 0) from Lay, after Read's and before 10,
---                      exactly when the ticket is solid"; "10, wiring buffer shorter than n × w × k (place: the length needed)"
---   lay_for t size     the same to a reading; "Those of Read", first
---   lay_of s size      the same of a ticket
---   laid_grid r        the grid of the wiring that an answer speaks of: "the result is legal, with the counts above"
+--   refused r           "Each refusal is a number and a place .. the answer's other fields are 0", "a refusal gives no"
+--   lay_good q size     Lay's answer to a problem, the buffer having so many bytes: "17 (place 0) from Lay, after Read's and before 10,
+--                       exactly when the ticket is solid"; "10, wiring buffer shorter than n × w × k (place: the length needed)"
+--   lay_for t size      the same to a reading; "Those of Read", first
+--   lay_of s size       the same of a ticket
+--   laid_grid r         the grid of the wiring that an answer speaks of: "the result is legal, with the counts above"
 --   Lays s before after r   the promise of a call on the ticket s that answers r and leaves the buffer, which was before, as after:
---     answer           number, place and figures
---     untouched        "a call turned down alters no byte of the wiring buffer"
---     laid             "A wiring that we lay is legal"; "Bytes past n × w × k are untouched"
---     narrowest        demand 3, rows and channels: "exactly h horizontal layers and exactly w tracks"; "Every other legal wiring of that
---                      ticket with at most h horizontal layers, whoever drew it, has at least as many tracks": any grid g of the ticket,
---                      any wiring x
---     lowest           demand 3, boxes: "Every other legal wiring of that box, whoever drew it, has at least as many layers as that floor"
---     bounded          two-layer channels: "laid legally on two layers, first vertical, with w tracks, 1 ≤ w and 4w ≤ 7n"
---     unwirable        "A solid one has no legal two-layer wiring of any width": any grid g of the ticket with two layers, of any width
---                      from 1 and either first direction, any wiring x
---     enough           after a good reading a buffer of the length that 10 asks for, or longer, is accepted
+--     answer            number, place and figures
+--     untouched         "a call turned down alters no byte of the wiring buffer"
+--     laid              "A wiring that we lay is legal"; "Bytes past n × w × k are untouched"
+--     narrowest         demand 3, rows and channels: "exactly h horizontal layers and exactly w tracks"; "Every other legal wiring of that
+--                       ticket with at most h horizontal layers, whoever drew it, has at least as many tracks": any grid g of the ticket,
+--                       any wiring x
+--     lowest            demand 3, boxes: "Every other legal wiring of that box, whoever drew it, has at least as many layers as that floor"
+--     bounded           two-layer channels: "laid legally on two layers, first vertical, with w tracks, 1 ≤ w and 4w ≤ 7n"
+--     unwirable         "A solid one has no legal two-layer wiring of any width": any grid g of the ticket with two layers, of any width
+--                       from 1 and either first direction, any wiring x
+--     enough            after a good reading a buffer of the length that 10 asks for, or longer, is accepted
 --   Outcome q before after r   what the functions that lay one kind's problem promise: the answer, and the buffer
 use Rattle.std.specs.Prelude.{ℕ, ◌*◌, ◌≤◌, ◌≡◌, ◌≢◌, Bool, true, false, not, List, leb, ltb, length}
 use Rattle.terms.specs.declared.Refusal.{Refusal}

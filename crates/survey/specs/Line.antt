@@ -1,22 +1,22 @@
 -- The program's line.
 --
---   text words       the bytes of a text
---   decimal x        "Other numbers are in base ten": its digits, with no zero in front
---   spelled fuel x   the same, where x has no more digits than fuel
---   field words x    words and then a number
---   begins kind      the kind's word, and "length"
---   counted a        "distinct nets", "`pins P` (all of them) after the nets", "across"
---   box_line a       "(n, w, distinct nets, across, up, layers Lay uses, floor)"
+--   text words        the bytes of a text
+--   decimal x         "Other numbers are in base ten": its digits, with no zero in front
+--   spelled fuel x    the same, where x has no more digits than fuel
+--   field words x     words and then a number
+--   begins kind       the kind's word, and "length"
+--   counted a         "distinct nets", "`pins P` (all of them) after the nets", "across"
+--   box_line a        "(n, w, distinct nets, across, up, layers Lay uses, floor)"
 --   trunk_line words a
---                    the line of a row or a channel, which begins with words; "row length 6 nets 3 pins 6 across 2 tracks 2 layers 2"
+--                     the line of a row or a channel, which begins with words; "row length 6 nets 3 pins 6 across 2 tracks 2 layers 2"
 --   two_layer_line a  "Survey prints `two-layer` and no tracks, and layers 2 even for a solid one"
---   refused_line a   "refused 9 at 1"
+--   refused_line a    "refused 9 at 1"
 --   line_for a, line_of s
---                    the line of an answer and of a ticket; "Each line ends in one newline"
---   longest_line     no line is longer
+--                     the line of an answer and of a ticket; "Each line ends in one newline"
+--   longest_line      no line is longer
 --   Lined s before after r
---                    what survey_line does: it answers the length that the line needs, and whether the buffer has it; the line is written
---                    to the buffer's front, and one that is too short is left as it is
+--                     what survey_line does: it answers the length that the line needs, and whether the buffer has it; the line is written
+--                     to the buffer's front, and one that is too short is left as it is
 use Rattle.std.specs.Prelude.{ℕ, zero, suc, ◌+◌, ◌/◌, ◌%◌, ◌≤◌, ◌≡◌, cond, List, [], ◌∷◌, ◌++◌, ltb, leb, length}
 use Prim.Native.Char.{code}
 use Prim.Native.String.{String, [] as end, ◌∷◌ as ◌then◌}

@@ -1,18 +1,18 @@
 -- Layers of a box in the buffer, seen upright: where the box was turned its columns are the buffer's tracks.
 -- No promise of a public call cites this.
 --
---   StripedAs turned before after n w f        the layer's part holds f i j in column i and track j, counted from 0
---   DrawnAs turned n w before after top x      layers 1 to top hold the wiring x, and every byte past them is as it was
---   Combed own k part                          the part has a line of length k for each place of the side `own`
---   CombAs by_track o a b c d s k before after  the layer is the comb of the moved box's side s: on each of the ticket's lines, of length k,
---                                              stands the pin there; its lines are tracks where by_track, else columns
---   track_lines w q p tracks                   the wiring of the combs of north and south, whose pins are p, and of the tracks
---   Lined o a b c d n w tracks q wiring        the box has n columns and w tracks when moved, and as many lanes as the q track layers
---                                              have tracks; the buffer is long enough for 2q layers
---   box_lines w q p tracks columns             the wiring of a box whose pins are p
+--   StripedAs turned before after n w f         the layer's part holds f i j in column i and track j, counted from 0
+--   DrawnAs turned n w before after top x       layers 1 to top hold the wiring x, and every byte past them is as it was
+--   Combed own k part                           the part has a line of length k for each place of the side `own`
+--   CombAs by_track o a b c d s k before after  the layer is the comb of the moved box's side s: on each of the ticket's lines, of length
+--                                               k, stands the pin there; its lines are tracks where by_track, else columns
+--   track_lines w q p tracks                    the wiring of the combs of north and south, whose pins are p, and of the tracks
+--   Lined o a b c d n w tracks q wiring         the box has n columns and w tracks when moved, and as many lanes as the q track layers
+--                                               have tracks; the buffer is long enough for 2q layers
+--   box_lines w q p tracks columns              the wiring of a box whose pins are p
 --   Drawable o a b c d n w tracks columns q wiring    there are n columns too, and the buffer is long enough
---   LaidAs o n w p before after                a wiring of the box is drawn on the ticket's lines, its lanes assigned by the rules; n and w
---                                              are those of the moved box
+--   LaidAs o n w p before after                 a wiring of the box is drawn on the ticket's lines, its lanes assigned by the rules; n and
+--                                               w are those of the moved box
 use Rattle.std.specs.Prelude.{ℕ, suc, ◌+◌, ◌*◌, ◌≤◌, ◌≡◌, List, Bool, true, false, length}
 use Rattle.grid.specs.Legal.{Pins, Wiring, entry, pins_of}
 use Rattle.grid.specs.Motion.{Orientation}

@@ -1,31 +1,31 @@
 -- What Read and Check answer, in a form that computes. The table's statement does not cite it: proofs/ show that it is what a ticket says
 -- (Tallied), and that Check answers nothing else (Found).
 --
---   times s v from k       how often v stands in the k bytes from byte from on
+--   times s v from k        how often v stands in the k bytes from byte from on
 --   on_side s v from p end  how many net bytes of a side are v; the side has p places, and its bytes are from `from` on, before `end`
---   times_in s v           how many net bytes of the ticket are v: as many as the pins that hold v, and quicker to count
---   tallied s              what the ticket says, with the pins of each net counted by its bytes
---   way g l                0 for a horizontal layer, 1 for a vertical one
---   is_near a b            one of the numbers is the next after the other
---   touches g s a i j l    pin a of side s is joined to the point (i, j, l)
---   is_joined g u v        u and v are joined, by their coordinates
---   side_no s, side_at a   the sides by number, 1 to 4
---   is_same u v            u and v are one node
---   over f n               the lists f n, .., f 1 in one
+--   times_in s v            how many net bytes of the ticket are v: as many as the pins that hold v, and quicker to count
+--   tallied s               what the ticket says, with the pins of each net counted by its bytes
+--   way g l                 0 for a horizontal layer, 1 for a vertical one
+--   is_near a b             one of the numbers is the next after the other
+--   touches g s a i j l     pin a of side s is joined to the point (i, j, l)
+--   is_joined g u v         u and v are joined, by their coordinates
+--   side_no s, side_at a    the sides by number, 1 to 4
+--   is_same u v             u and v are one node
+--   over f n                the lists f n, .., f 1 in one
 --   nodes_on g s, pin_nodes g the pins of side s, and of all sides
 --   on_track g l j, on_layer g l
---                          the points of track j of layer l, and of layer l
---   nodes g                all pins and points
---   any t l, keep t l      whether an entry of the list l passes the test t; the entries that do
---   has_path g l u v       u is v or joined to it, or a chain of joins leads from u to v through nodes of l (Warshall's recursion)
---   holding g p x m        the nodes that hold net m
---   is_broken g p x m      two of them have no path through them
---   is_pin_of p v u        u is a pin that holds v
+--                           the points of track j of layer l, and of layer l
+--   nodes g                 all pins and points
+--   any t l, keep t l       whether an entry of the list l passes the test t; the entries that do
+--   has_path g l u v        u is v or joined to it, or a chain of joins leads from u to v through nodes of l (Warshall's recursion)
+--   holding g p x m         the nodes that hold net m
+--   is_broken g p x m       two of them have no path through them
+--   is_pin_of p v u         u is a pin that holds v
 --   is_foreign g p v        v is neither 0 nor the net of a pin
---   foreign_at g p x       the first point that holds a foreign number, counted from 1; 0 where there is none
---   broken_net g p x       the smallest net that is broken; 0 where there is none
---   answer_for f b         Check's answer where the first foreign point is f and the smallest broken net is b
---   found g p x            Check's answer to the wiring in the buffer x
+--   foreign_at g p x        the first point that holds a foreign number, counted from 1; 0 where there is none
+--   broken_net g p x        the smallest net that is broken; 0 where there is none
+--   answer_for f b          Check's answer where the first foreign point is f and the smallest broken net is b
+--   found g p x             Check's answer to the wiring in the buffer x
 use Rattle.std.specs.Prelude.{ℕ, zero, suc, ◌+◌, ◌-◌, ◌%◌, Bool, false, cond, not, ◌&&◌, ◌||◌, List, [], ◌∷◌, ◌++◌, eqb, leb, length}
 use Rattle.counting.specs.Counting.{bit, count, least}
 use Rattle.terms.specs.Kinds.{Side, north, south, west, east}

@@ -1,25 +1,25 @@
 -- The kinds of ticket: one line of a table for each, and nothing else in the repository says what a kind is.
 --
---   Side                     the four sides of the grid
---   row, channel, box        "kind: 1 row, 2 channel, 3 box"
---   two_layer                "Kind 4 is such a channel: sides as kind 2, byte 2 always 1" (document 02, job 1)
+--   Side                      the four sides of the grid
+--   row, channel, box         "kind: 1 row, 2 channel, 3 box"
+--   two_layer                 "Kind 4 is such a channel: sides as kind 2, byte 2 always 1" (document 02, job 1)
 --   by_kind kind none r c b t what stands in the kind's line of a column of the table; none for a number that is no kind
---   is_kind kind             the number is a kind's
---   word kind                what the survey's line begins with; "Channels print channel likewise", "Survey prints
---                            `two-layer`"
---   has_side kind s          the kind has pins on side s: "A row may have bit 0, a channel bits 0 and 1, a box all four"
---   largest_side_map kind    the same as the byte in which all these bits stand: "bit 0 north, 1 south, 2 west, 3 east; bits 4 to 7 zero"
---   largest_byte2 kind       "Byte 2: for a box, w, 1 to 90; otherwise h, the number of trunk (horizontal) layers, 1 to 8"; "byte 2
---                            always 1"
---   has_own_width kind       byte 2 is the width of every wiring of the ticket: "A wiring of a ticket has the ticket's n and, for a box,
---                            its w"
---   widest kind byte2        the greatest w that Check takes: "w outside 1 to 90, or not a box's own w"; "157 for this kind"
---   quotient n w             "q = longer side/shorter side, rounded up"
---   layers_for kind n byte2  the layers that Lay uses: "Row: 2h layers", "Channel: 2h + 1 layers", "Box: exactly 2q + 4 layers";
---                            "laid legally on two layers"
---   tracks_bound kind        demand 3 speaks of its tracks: "exactly h horizontal layers and exactly w tracks", rows and channels;
---                            "Demand 3 excludes kind 4"
---   layers_bound kind        demand 3 speaks of its layers and floor: boxes
+--   is_kind kind              the number is a kind's
+--   word kind                 what the survey's line begins with; "Channels print channel likewise", "Survey prints
+--                             `two-layer`"
+--   has_side kind s           the kind has pins on side s: "A row may have bit 0, a channel bits 0 and 1, a box all four"
+--   largest_side_map kind     the same as the byte in which all these bits stand: "bit 0 north, 1 south, 2 west, 3 east; bits 4 to 7 zero"
+--   largest_byte2 kind        "Byte 2: for a box, w, 1 to 90; otherwise h, the number of trunk (horizontal) layers, 1 to 8"; "byte 2
+--                             always 1"
+--   has_own_width kind        byte 2 is the width of every wiring of the ticket: "A wiring of a ticket has the ticket's n and, for a box,
+--                             its w"
+--   widest kind byte2         the greatest w that Check takes: "w outside 1 to 90, or not a box's own w"; "157 for this kind"
+--   quotient n w              "q = longer side/shorter side, rounded up"
+--   layers_for kind n byte2   the layers that Lay uses: "Row: 2h layers", "Channel: 2h + 1 layers", "Box: exactly 2q + 4 layers";
+--                             "laid legally on two layers"
+--   tracks_bound kind         demand 3 speaks of its tracks: "exactly h horizontal layers and exactly w tracks", rows and channels;
+--                             "Demand 3 excludes kind 4"
+--   layers_bound kind         demand 3 speaks of its layers and floor: boxes
 use Rattle.std.specs.Prelude.{ℕ, ◌+◌, ◌*◌, min, max, Bool, true, false, cond, eqb}
 use Prim.Native.String.{String}
 use Rattle.counting.specs.Counting.{ceil}

@@ -1,15 +1,15 @@
 -- Read: what a ticket says, or its first refusal, in document 01's order. The header and the sides, refusals 1 to 7, are read as Format and
 -- Stages of crate ticket_sides say.
 --
---   pins_at s ends        the nets of each side; a side starts where the one before it ends
---   left_over s i         "8, bytes left over (the first)"
---   no_lone lone          "9, a net with one pin (the smallest such net)"
---   no_problem            "the answer's other fields are 0"; there are no pins
---   problem_at s k ps     what the header says, with the number of nets and the pins
---   or_refused c r        r, or the refusal that c holds
---   judged s ps           the last test, once all bytes are read
---   ticket_of s           the whole reading: the first refusal, or the problem that the ticket states
---   read_of s              Read's answer: "Otherwise number and place are 0: Read gives kind, n, byte 2 and the number of nets"
+--   pins_at s ends             the nets of each side; a side starts where the one before it ends
+--   left_over s i              "8, bytes left over (the first)"
+--   no_lone lone               "9, a net with one pin (the smallest such net)"
+--   no_problem                 "the answer's other fields are 0"; there are no pins
+--   problem_at s k ps          what the header says, with the number of nets and the pins
+--   or_refused c r             r, or the refusal that c holds
+--   judged s ps                the last test, once all bytes are read
+--   ticket_of s                the whole reading: the first refusal, or the problem that the ticket states
+--   read_of s                  Read's answer: "Otherwise number and place are 0: Read gives kind, n, byte 2 and the number of nets"
 --   problem_of, ticket_pins s  the problem of an accepted ticket, and its pins
 use Rattle.std.specs.Prelude.{ℕ, List, length, replicate, leb, eqb}
 use Rattle.terms.specs.Limits.{longest_side}

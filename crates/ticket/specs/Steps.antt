@@ -1,9 +1,9 @@
 -- What the functions that list a ticket's nets answer and ask on the way. No promise of a public call cites it.
 --
---   Extent s on from p end  a side of p places that stands (on) has its map and its nets from byte from to byte end of the ticket; one
---                           that does not has no byte
---   Extents s e             all four sides, each from the end of the one before
---   Sited s ps              the pins are nets or empty, and none is past its side's end, by the sizes that the header says
+--   Extent s on from p end   a side of p places that stands (on) has its map and its nets from byte from to byte end of the ticket; one
+--                            that does not has no byte
+--   Extents s e              all four sides, each from the end of the one before
+--   Sited s ps               the pins are nets or empty, and none is past its side's end, by the sizes that the header says
 --   reading_of r             what was read, apart from the spans
 use Rattle.std.specs.Prelude.{ℕ, ◌+◌, ◌≤◌, ◌<◌, ◌≡◌, Bool, true, false, List, length}
 use Rattle.terms.specs.Limits.{longest_side, largest_net}

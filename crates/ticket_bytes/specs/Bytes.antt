@@ -1,17 +1,17 @@
 -- The bytes of a problem: the ticket that states it. Read is its inverse: proofs/ReadBack.antt, proofs/BytesBack.antt.
 --
---   is_filled f a      place a of a side whose nets are f holds a pin
---   has_pins f p       one of the side's places 1 to p does
---   side_stands q s    the same of side s of a problem: "For each standing side"
---   side_map q         "Byte 3, side map: bit 0 north, 1 south, 2 west, 3 east; bits 4 to 7 zero", a bit for each side that has a pin
---   map_byte f p j     byte j of the side's position map: "Place i is bit (i - 1) mod 8 of byte (i - 1) div 8. Spare bits are zero"
---   nets_to f p        "one net number .. for each standing bit, in rising order of place"
---   side_bytes f p     a side's bytes: "For each standing side .. its position map: p places .. in p/8 bytes, rounded up"; "Then comes one
---                      net number .. for each standing bit"
---   bytes_on q s       the bytes of side s of a problem
+--   is_filled f a       place a of a side whose nets are f holds a pin
+--   has_pins f p        one of the side's places 1 to p does
+--   side_stands q s     the same of side s of a problem: "For each standing side"
+--   side_map q          "Byte 3, side map: bit 0 north, 1 south, 2 west, 3 east; bits 4 to 7 zero", a bit for each side that has a pin
+--   map_byte f p j      byte j of the side's position map: "Place i is bit (i - 1) mod 8 of byte (i - 1) div 8. Spare bits are zero"
+--   nets_to f p         "one net number .. for each standing bit, in rising order of place"
+--   side_bytes f p      a side's bytes: "For each standing side .. its position map: p places .. in p/8 bytes, rounded up"; "Then comes one
+--                       net number .. for each standing bit"
+--   bytes_on q s        the bytes of side s of a problem
 --   bytes_of q          the ticket: bytes 0 to 3, then the sides "in that order"
---   Bytes s            each number of the list is a byte
---   Sized q            the lists of pins have an entry for each place of the longest side
+--   Bytes s             each number of the list is a byte
+--   Sized q             the lists of pins have an entry for each place of the longest side
 use Rattle.std.specs.Prelude.{ℕ, zero, suc, ◌+◌, ◌-◌, ◌*◌, ◌^◌, ◌<◌, ◌≡◌, Bool, cond, ◌&&◌, List, [], ◌∷◌, ◌++◌, length, leb}
 use Rattle.counting.specs.Counting.{bit, sum, some}
 use Rattle.terms.specs.Kinds.{Side, north, south, west, east}

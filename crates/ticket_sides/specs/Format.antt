@@ -1,19 +1,19 @@
 -- The bytes of a ticket: its maps, its net numbers and the pins that they give.
 --
---   byte s i             byte i of the ticket s, counted from 0
---   longest_ticket       "A ticket has at most 412 bytes."
---   is_on b k            bit k of the byte b stands
---   stands s from a      place a has a pin, by the position map at byte from; "Place i is bit (i - 1) mod 8 of byte (i - 1) div 8"
+--   byte s i              byte i of the ticket s, counted from 0
+--   longest_ticket        "A ticket has at most 412 bytes."
+--   is_on b k             bit k of the byte b stands
+--   stands s from a       place a has a pin, by the position map at byte from; "Place i is bit (i - 1) mod 8 of byte (i - 1) div 8"
 --   standing_bits s from p
---                        how many of the places 1 to p have a pin; "The number of standing bits of a map"
---   map_bytes p          "p places .. in p/8 bytes, rounded up"
---   good_map s from p    "Spare bits are zero, and at least one bit stands": the map's bytes have no standing bits but those of its p
---                        places
+--                         how many of the places 1 to p have a pin; "The number of standing bits of a map"
+--   map_bytes p           "p places .. in p/8 bytes, rounded up"
+--   good_map s from p     "Spare bits are zero, and at least one bit stands": the map's bytes have no standing bits but those of its p
+--                         places
 --   pin_net s on from p a the net of place a: "one net number, 1 to 180, for each standing bit, in rising order of place", after the map; 0
---                        where the place is empty or the side does not stand (on)
---   values_from f i k    f i, f (i + 1), .., k of them
---   side_list f p        a side's list of 90 numbers: f at its places 1 to p, and 0 past them
---   net_list s from k    the k bytes from byte from on as such a list
+--                         where the place is empty or the side does not stand (on)
+--   values_from f i k     f i, f (i + 1), .., k of them
+--   side_list f p         a side's list of 90 numbers: f at its places 1 to p, and 0 past them
+--   net_list s from k     the k bytes from byte from on as such a list
 --   side_nets s on from p the nets of a side's places as 90 numbers
 use Rattle.std.specs.Prelude.{ℕ, zero, suc, ◌+◌, ◌-◌, ◌*◌, ◌/◌, ◌%◌, ◌^◌, Bool, cond, ◌&&◌, List, [], ◌∷◌, get_or, leb, eqb}
 use Rattle.counting.specs.Counting.{count}

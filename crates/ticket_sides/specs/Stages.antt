@@ -1,18 +1,18 @@
 -- Read's first stages: where reading stands after the header and after each side, or its first refusal, in document 01's order.
 --
---   stop k p              a refusal, where reading ends
---   go_on i               nothing is refused yet; byte i is read next
+--   stop k p               a refusal, where reading ends
+--   go_on i                nothing is refused yet; byte i is read next
 --   fields_of kind n byte2 rest
---                         "2, kind (0). 3, n (1). 4, byte 2 (2)."; then what rest says
---   header_of s           the first four bytes: "1, fewer than 4 bytes (place: the ticket's length)", 2 to 4, "5, side map (3)."
---   is_net least b        the byte b is one of the numbers from least to 180
---   nets_of least s i k   k net bytes from byte i on: "1 again, a byte needed and missing (the ticket's length)", "7, net number 0 or
---                         above 180 (its byte)"; in a ticket the least number is 1
+--                          "2, kind (0). 3, n (1). 4, byte 2 (2)."; then what rest says
+--   header_of s            the first four bytes: "1, fewer than 4 bytes (place: the ticket's length)", 2 to 4, "5, side map (3)."
+--   is_net least b         the byte b is one of the numbers from least to 180
+--   nets_of least s i k    k net bytes from byte i on: "1 again, a byte needed and missing (the ticket's length)", "7, net number 0 or
+--                          above 180 (its byte)"; in a ticket the least number is 1
 --   side_of s from p       a side of p places: its map, then its nets; "6, a map without bits or with a spare bit (first byte of the map)";
---                         "A map's bytes must all be present before 6 is judged."
---   after s on p c        the next side after c, read where it stands (on)
+--                          "A map's bytes must all be present before 6 is judged."
+--   after s on p c         the next side after c, read where it stands (on)
 --   north_end s .. east_end s, ends_of s
---                         "For each standing side, in that order, follows its position map", "bit 0 north, 1 south, 2 west, 3 east"
+--                          "For each standing side, in that order, follows its position map", "bit 0 north, 1 south, 2 west, 3 east"
 use Rattle.std.specs.Prelude.{ℕ, zero, suc, ◌+◌, Bool, cond, ◌&&◌, List, length, ltb, leb}
 use Rattle.terms.specs.Limits.{longest_side, largest_net, within}
 use Rattle.terms.specs.Kinds.{is_kind, largest_byte2, largest_side_map}

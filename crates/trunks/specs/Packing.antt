@@ -1,13 +1,13 @@
 -- Gallai's packing of spans into places, as the code runs it. The promise is in Trunks; this file says what each step computes.
 --
---   no_span           the span that stands past a list's end
---   pick b a c        a for yes, c for no
+--   no_span            the span that stands past a list's end
+--   pick b a c         a for yes, c for no
 --   first_free lasts l the first place whose last span ended before column l, or the number of places where none is
 --   fresh_packing      no span has its place yet
---   placed p s        the state once s has its place: the first that is free from its leftmost column on
---   packed p ss       the same for a list of spans, one after the other
---   Fits p s          s finds a place that is free, and its net has an entry
---   Packable p ss     each of them does
+--   placed p s         the state once s has its place: the first that is free from its leftmost column on
+--   packed p ss        the same for a list of spans, one after the other
+--   Fits p s           s finds a place that is free, and its net has an entry
+--   Packable p ss      each of them does
 use Rattle.std.specs.Prelude.{ℕ, suc, ◌≤◌, ◌<◌, Bool, true, false, List, [], ◌∷◌, set, replicate, ltb}
 use Rattle.terms.specs.Limits.{largest_net, net_entries}
 use Rattle.nets.specs.declared.Span.{Span}

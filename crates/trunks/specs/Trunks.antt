@@ -1,16 +1,16 @@
 -- What the trunk places promise to whoever draws them.
 --
 --   Trunks, trunks_of left right place
---                            the nets' leftmost and rightmost columns and trunk places, an entry for each net
+--                               the nets' leftmost and rightmost columns and trunk places, an entry for each net
 --   SpanColumns north south n first last wests easts
---                            what is asked of the table of spans: the nets' first and last columns, and no pin to the west or the east
+--                               what is asked of the table of spans: the nets' first and last columns, and no pin to the west or the east
 --   left_of, right_of, place_of net m's leftmost and rightmost column, 0 where it has no pin, and its trunk place
---   PinIn north south c m    net m has a pin in column c
---   Crosses t m c            net m lies in more than one column, and its span, leftmost to rightmost column, contains c
---   crossing t c             how many nets do
---   Placed north south n t   the spans are the nets', and the places are Gallai's: "two nets share a place only if their spans have no
---                            column in common", "A channel net with all its pins in one column takes no place", and no place is needed
---                            beyond the largest number of nets that cross one column
+--   PinIn north south c m       net m has a pin in column c
+--   Crosses t m c               net m lies in more than one column, and its span, leftmost to rightmost column, contains c
+--   crossing t c                how many nets do
+--   Placed north south n t      the spans are the nets', and the places are Gallai's: "two nets share a place only if their spans have no
+--                               column in common", "A channel net with all its pins in one column takes no place", and no place is needed
+--                               beyond the largest number of nets that cross one column
 use Rattle.std.specs.Prelude.{ℕ, ◌≤◌, ◌<◌, ◌≡◌, ◌⊎◌, ◌≢◌, ◌&&◌, List, get_or, leb, ltb}
 use Rattle.counting.specs.Counting.{In}
 use Rattle.terms.specs.Limits.{largest_net}

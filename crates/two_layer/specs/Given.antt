@@ -1,9 +1,9 @@
 -- What laying asks of a two-layer channel and of its operations.
 --
 --   from_north, from_south plan  the operations from the north and from the south
---   Few plan                    no more operations than the arrays hold
---   Layable north south n plan  a channel of length n in which every net has two pins or more, and the operations that were found for
---                               it, which is not solid
+--   Few plan                     no more operations than the arrays hold
+--   Layable north south n plan   a channel of length n in which every net has two pins or more, and the operations that were found for
+--                                it, which is not solid
 use Rattle.std.specs.Prelude.{ℕ, ◌≤◌, ◌≡◌, false, List}
 use Rattle.terms.specs.Limits.{largest_net}
 use Rattle.grid.specs.Legal.{entry, column_pins}

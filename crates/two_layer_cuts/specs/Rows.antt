@@ -1,9 +1,9 @@
 -- Operations and cuts as arrays.
 --
 --   ops_of o         the arrays as operations
---   column_entries  the entries of a row with one for each column and one for 0
---   item list m     entry m of a list, counted from 0; 0 past its end
---   Row n f list    entry c of the list is f c, for each of columns 1 to n and for 0
+--   column_entries   the entries of a row with one for each column and one for 0
+--   item list m      entry m of a list, counted from 0; 0 past its end
+--   Row n f list     entry c of the list is f c, for each of columns 1 to n and for 0
 use Rattle.std.specs.Prelude.{ℕ, ◌+◌, ◌≤◌, ◌≡◌, List, length, get_or}
 use Rattle.terms.specs.Limits.{longest_side}
 use Rattle.two_layer_law.specs.Cuts.{Ops}

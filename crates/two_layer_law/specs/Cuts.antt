@@ -2,22 +2,22 @@
 -- brings all wires of one net together: into one column, or, at a net's end, into none. Operations lead down from the north pins and up
 -- from the south pins, until both have the same cut.
 --
---   Ops                      so many operations, counted from 0: the net of each, the column that it is brought to (0 for none), and
---                            the ends of its trunk
---   cut_with x t cut         what the vertical layer holds in the track: the cut, and net x in column t
---   cut_after x t cut        the cut past the track: net x in column t alone
+--   Ops                       so many operations, counted from 0: the net of each, the column that it is brought to (0 for none), and
+--                             the ends of its trunk
+--   cut_with x t cut          what the vertical layer holds in the track: the cut, and net x in column t
+--   cut_after x t cut         the cut past the track: net x in column t alone
 --   cut_of o start s          the cut after s operations
 --   row_of o start s          the vertical layer in the track of operation s
---   trunk_of o s             the horizontal layer in that track
---   Same o o'                the same operations, as far as they are counted
---   followed o o'            the operations of o, and then those of o'
---   Runs n start o           each operation is of a net that the cut holds, brought to a column that it has or that is empty, and its trunk
---                            reaches all its columns
---   Alone o s x              of the operations only s, if any, is of net x
---   EndsOnce o o'            a net that is brought to no column by o has no other operation
---   Consistent n p down up   the operations from both sides lead to one cut, and a net without an operation has one column
---   op_tracks down up        "1 ≤ w": a track for each operation, and one where there is none
---   OpsDrawn n p down up x   the wiring of these operations: those from the north in the upper tracks, those from the south in the lower
+--   trunk_of o s              the horizontal layer in that track
+--   Same o o'                 the same operations, as far as they are counted
+--   followed o o'             the operations of o, and then those of o'
+--   Runs n start o            each operation is of a net that the cut holds, brought to a column that it has or that is empty, and its
+--                             trunk reaches all its columns
+--   Alone o s x               of the operations only s, if any, is of net x
+--   EndsOnce o o'             a net that is brought to no column by o has no other operation
+--   Consistent n p down up    the operations from both sides lead to one cut, and a net without an operation has one column
+--   op_tracks down up         "1 ≤ w": a track for each operation, and one where there is none
+--   OpsDrawn n p down up x    the wiring of these operations: those from the north in the upper tracks, those from the south in the lower
 use Rattle.std.specs.Prelude.{ℕ, zero, suc, ◌+◌, ◌-◌, ◌≤◌, ◌<◌, max, ◌≡◌, ◌⊎◌, ◌≢◌, cond, ◌&&◌, eqb, leb, ltb}
 use Rattle.counting.specs.Counting.{In}
 use Rattle.terms.specs.Kinds.{north, south}

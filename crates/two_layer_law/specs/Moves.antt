@@ -2,29 +2,29 @@
 -- or, without a pin on the other side, into none. Then the nets of both sides stand in one column each, and are moved, one after the
 -- other, to the columns in which the south side has them: to one that is empty; where none is, a net is first moved out of the way.
 --
---   first_on a n m       the first of columns 1 to n that holds net m, 0 where none does
---   last_on a n m        the last of them, 0 where none does
---   held_on a n m        side a holds net m
---   leads a b n          the nets of both sides, each in the first column in which side a holds it; 0 elsewhere
---   solid_test a b n     in both orders of the sides every column leads a net, and not the same everywhere: the channel is solid
---   several a n m        net m has two or more pins on side a
---   gatherings a n       how many nets have
---   Gathered a b n o     the operations that gather them, in rising order of nets; b is the other side
---   MoveState            the net in each column; the column of each net; the column that the last move left
---   ready goal cut c     column c is empty, and is to get a net
---   wrong goal cut c     column c is to get another net than it holds
---   spare goal cut c     column c is empty, and stays so at the end
---   filling n goal st    a column that is ready: the one that the last move left, or else the first; 0 where none is
---   blocked n goal st    the first column that is wrong, 0 where none is
+--   first_on a n m              the first of columns 1 to n that holds net m, 0 where none does
+--   last_on a n m               the last of them, 0 where none does
+--   held_on a n m               side a holds net m
+--   leads a b n                 the nets of both sides, each in the first column in which side a holds it; 0 elsewhere
+--   solid_test a b n            in both orders of the sides every column leads a net, and not the same everywhere: the channel is solid
+--   several a n m               net m has two or more pins on side a
+--   gatherings a n              how many nets have
+--   Gathered a b n o            the operations that gather them, in rising order of nets; b is the other side
+--   MoveState                   the net in each column; the column of each net; the column that the last move left
+--   ready goal cut c            column c is empty, and is to get a net
+--   wrong goal cut c            column c is to get another net than it holds
+--   spare goal cut c            column c is empty, and stays so at the end
+--   filling n goal st           a column that is ready: the one that the last move left, or else the first; 0 where none is
+--   blocked n goal st           the first column that is wrong, 0 where none is
 --   moved, moved_to n goal st   the net of the next move, 0 where all stand right; and its column
---   next n goal st       the state after that move
---   state_at n goal st s  the state after s moves
---   steps n goal st most how many moves are made until all stand right, at most `most`
---   start_of a b n        the state before the first move, side a being the north side
+--   next n goal st              the state after that move
+--   state_at n goal st s        the state after s moves
+--   steps n goal st most        how many moves are made until all stand right, at most `most`
+--   start_of a b n              the state before the first move, side a being the north side
 --   moves_of n goal st many     these moves as operations
---   most_moves           enough for every channel
---   moves a b n          how many moves a channel gets whose sides are a and b
---   width_for a b n       the tracks that it gets: one for each operation, and one where there is none
+--   most_moves                  enough for every channel
+--   moves a b n                 how many moves a channel gets whose sides are a and b
+--   width_for a b n             the tracks that it gets: one for each operation, and one where there is none
 use Rattle.std.specs.Prelude.{ℕ, zero, suc, ◌+◌, ◌<◌, min, max, ◌≡◌, Bool, true, cond, not, ◌&&◌, eqb, leb}
 use Rattle.counting.specs.Counting.{In, count, some, every, least}
 use Rattle.terms.specs.Limits.{largest_net}

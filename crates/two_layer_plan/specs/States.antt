@@ -1,11 +1,11 @@
 -- The states between the moves of a channel, as the inner functions' contracts cite them.
 --
 --   state_of cut at left           a state whose cut is a row and whose columns of nets are a table
---   Agree n st st'                the same state, as far as rows and tables tell
---   leads_solid cut goal n        in both rows every column has a net, and not the same everywhere
---   out_of_way n goal cut         the net in the first column that is wrong, 0 where none is
---   Next n goal cut at left x t   x and t are the net and the column of the next move
---   no_operations                 the operations of which none is counted
+--   Agree n st st'                 the same state, as far as rows and tables tell
+--   leads_solid cut goal n         in both rows every column has a net, and not the same everywhere
+--   out_of_way n goal cut          the net in the first column that is wrong, 0 where none is
+--   Next n goal cut at left x t    x and t are the net and the column of the next move
+--   no_operations                  the operations of which none is counted
 use Rattle.std.specs.Prelude.{ℕ, ◌≤◌, ◌<◌, ◌≡◌, List, Bool, not, cond, ◌&&◌, eqb, leb, replicate}
 use Rattle.counting.specs.Counting.{some, every, least}
 use Rattle.terms.specs.Limits.{largest_net, byte_values}

@@ -7,7 +7,8 @@
 --   view_start, view_length  where the layer's part starts in the wiring, at the layer's first point, and its length; 0 and 0 when refused
 --   view_part x n w k l      the "part of n × w bytes for the layer, and an empty part when refused"
 --   OwnPart x start size r   "the wiring's own part": r is no copy, but lies in the memory of x, start bytes after the first byte of x, and
---                            has size bytes. A slice's value has beside its bytes its place, a block of memory and an offset in it (ref_ptr)
+--                            has size bytes. A slice's value has beside its bytes its place, a block of memory and an offset in it
+--                            (ref_ptr)
 use Rattle.std.specs.Prelude.{ℕ, ◌+◌, ◌*◌, ◌≡◌, Bool, cond, ◌&&◌, List, eqb, length, take, drop}
 use Rattle.std.specs.Borrow.{Bor}
 use Rattle.terms.specs.declared.Refusal.{Refusal}
