@@ -1,5 +1,5 @@
-// The public calls, exported for C and Rust. Each writes its answer, number by number, into an array that the caller lends,
-// and returns whether the array had the room; where it had not, nothing at all is altered.
+// The public calls as C and Rust make them (crate pozqaben_c exports them). Each writes its answer, number by number, into an array that
+// the caller lends, and returns whether the array had the room; where it had not, nothing at all is altered.
 #![tactic(auto)]
 
 ghost use Rattle.std.specs.Prelude.{◌≡◌, true, false, length};
