@@ -8,7 +8,6 @@ ghost use Rattle.answers.specs.Answers.{written_entries};
 
 use edge_floor::EdgeFloorAnswer;
 use grid::{Column, Layer, Track};
-use output::Written;
 use router::LayAnswer;
 use survey::SurveyAnswer;
 use terms::Refusal;
@@ -135,12 +134,11 @@ pub fn floor_entries(a: EdgeFloorAnswer) -> [u64; EDGE_FLOOR_ENTRIES]
     ]
 }
 
-pub fn written_entries(a: Written) -> [u64; WRITTEN_ENTRIES]
+pub fn written_entries(a: Result<usize, Refusal>) -> [u64; WRITTEN_ENTRIES]
     ensures { result ≡ written_entries a }
 {
-    [
-        a.refusal.number as u64,
-        a.refusal.place as u64,
-        a.length as u64,
-    ]
+    match a {
+        Ok(length) => [0, 0, length as u64],
+        Err(refusal) => [refusal.number as u64, refusal.place as u64, 0],
+    }
 }

@@ -1,9 +1,9 @@
 -- What a call on a board answers, test by test, as its contract states it.
 use Prim.Native.Nat.{ℕ, ◌+◌, ◌-◌, ◌≤◌, ◌<◌}
 use mathlib.Core.Path.{◌≡◌, sym, ap, ◌∙◌, subst}
-use mathlib.Core.Logic.{◌≢◌}
 use mathlib.Core.Bool.{Bool, true, false, true≢false}
 use mathlib.Core.List.{List, []}
+use native.Mathlib.Omega.{arith}
 use lib.ListN.{length, get_or}
 use borrow.Author.Tests.{eq-eqb, ne_eqb, le-leb, lt-leb}
 use Rattle.counting.specs.Counting.{In}
@@ -25,7 +25,7 @@ use Rattle.board_law.proofs.Without.{without_is}
 use Rattle.board_law.proofs.Gains.{with_pins}
 use Rattle.board_law.proofs.Recount.{counts_with}
 use Rattle.board_law.proofs.Ends.{ends_turned}
-use Rattle.board_sides.specs.declared.EndPlaces.{EndPlaces}
+use Rattle.board_sides.specs.declared.places.EndPlaces.{EndPlaces}
 use Rattle.board_counts.proofs.Recounts.{Recounts}
 use Rattle.board.specs.declared.Board.{Board}
 
@@ -46,15 +46,15 @@ module _ (there : Bool) (free : ℕ → Bool) (m : ℕ) (l : List ℕ) where
       unfolding add_refusal
       too_few c = rw (a, b, lt-leb 2 (length l) c)
 
-      module _ (c : 2 ≤ length l) (count : ℕ) (d : count ≡ first_wrong free [] l) where
-        pub wrong_place : count ≢ length l → refusal 21 count ≡ add_refusal there free m l
+      module _ (c : 2 ≤ length l) where
+        pub wrong_place : (at : ℕ) → at ≡ first_wrong free [] l → at < length l → refusal 21 at ≡ add_refusal there free m l
         unfolding add_refusal
-        wrong_place e =
-            rw (a, b, le-leb 2 (length l) c, ne_eqb (first_wrong free [] l) (length l) (λ f. e (d ∙ f))) (ap (refusal 21) d)
+        wrong_place at d e =
+            rw (a, b, le-leb 2 (length l) c, ne_eqb (first_wrong free [] l) (length l) (λ f. omega (arith, d, e, f))) (ap (refusal 21) d)
 
-        pub no_wrong : count ≡ length l → refusal 0 0 ≡ add_refusal there free m l
+        pub no_wrong : first_wrong free [] l ≡ length l → refusal 0 0 ≡ add_refusal there free m l
         unfolding add_refusal
-        no_wrong e = rw (a, b, le-leb 2 (length l) c, eq-eqb (first_wrong free [] l) (length l) (sym d ∙ e))
+        no_wrong e = rw (a, b, le-leb 2 (length l) c, eq-eqb (first_wrong free [] l) (length l) e)
 
 abbrev add_refusal_on : Problem → ℕ → List ℕ → Refusal
 add_refusal_on q m l = add_refusal (is_there (pins_in q.pins) m) (is_free q (pins_in q.pins)) m l
@@ -114,19 +114,19 @@ module _ (q x q' : Problem) (ps : Pins) (m : ℕ) (l : List ℕ) (r : Refusal) (
 
 -- ---- dropping
 
-module _ (there : ℕ → Bool) (l : List ℕ) {count : ℕ} (is : count ≡ first_absent there l) where
-  pub is_absent : count ≢ length l → refusal 22 (get_or l count 0) ≡ drop_refusal there l
-  is_absent ne = ap (λ (k : ℕ). refusal 22 (get_or l k 0)) is ∙ sym (first_absent_lem there l (λ e. ne (is ∙ e)))
+module _ (there : ℕ → Bool) (l : List ℕ) where
+  pub is_absent : {at : ℕ} → at ≡ first_absent there l → at < length l → refusal 22 (get_or l at 0) ≡ drop_refusal there l
+  is_absent is less = ap (λ (k : ℕ). refusal 22 (get_or l k 0)) is ∙ sym (first_absent_lem there l (λ e. omega (arith, is, less, e)))
 
-  module _ (all : count ≡ length l) where
-    pub is_repeat : {repeat : ℕ} → repeat ≡ first_repeat l → repeat ≢ length l → refusal 23 repeat ≡ drop_refusal there l
-    is_repeat at ne = ap (refusal 23) at ∙ sym (first_repeat_lem there l (sym is ∙ all) (λ e. ne (at ∙ e)))
+  module _ (all : first_absent there l ≡ length l) where
+    pub is_repeat : {at : ℕ} → at ≡ first_repeat l → at < length l → refusal 23 at ≡ drop_refusal there l
+    is_repeat is less = ap (refusal 23) is ∙ sym (first_repeat_lem there l all (λ e. omega (arith, is, less, e)))
 
     pub none_twice : first_repeat l ≡ length l → refusal 0 0 ≡ drop_refusal there l
-    none_twice new = sym (no_repeat there l (sym is ∙ all) new)
+    none_twice new = sym (no_repeat there l all new)
 
     pub net_numbers : NetNumbers l
-    net_numbers = record { each = λ x e. (all_there there l (sym is ∙ all) x e).0 }
+    net_numbers = record { each = λ x e. (all_there there l all x e).0 }
 
 abbrev drop_refusal_on : Problem → List ℕ → Refusal
 drop_refusal_on q l = drop_refusal (is_there (pins_in q.pins)) l

@@ -21,7 +21,6 @@ use board_pins::{holds_net, place_net, without_nets};
 use board_sides::end_places;
 use figures::floor_for;
 use grid::{Column, Layer};
-use output::Written;
 use problem::{Pins, Problem};
 use terms::{
     BYTE_VALUES, ROW, Refusal, by_kind, is_within, larger, largest_byte2, refuse, rounded_up,
@@ -174,11 +173,10 @@ impl Board {
             → Counted result.board.problem result.board.columns result.board.tracks }
     {
         let q = limited(self.problem);
-        let before = q.pins;
         if !is_within(net, Self::LARGEST_NET) {
             return refused(self, 7, 0);
         }
-        let there = holds_net(before, net as u8);
+        let there = holds_net(&q.pins, net as u8);
         let size = places.len();
         if there {
             return refused(self, 20, net);
@@ -186,15 +184,13 @@ impl Board {
         if size < 2 {
             return refused(self, 21, size);
         }
-        let placed = place_net(q, net as u8, places);
-        let count = placed.count;
-        if count != size {
-            return refused(self, 21, count);
+        let mut pins = q.pins;
+        if let Err(wrong) = place_net(&q, &mut pins, net as u8, places) {
+            return refused(self, 21, wrong);
         }
-        let pins = placed.pins;
         let problem = with_pins(q, q.nets + 1, pins);
         let n = grid::column_count(q.n) as u8;
-        let w = box_width(q);
+        let w = box_width(&q);
         let along = end_places(&pins.south, &pins.north, net as u8);
         let ends = end_places(&pins.west, &pins.east, net as u8);
         let mut columns = self.columns;
@@ -224,23 +220,16 @@ impl Board {
             (record { problem = result.board.problem; columns = result.board.columns; tracks = result.board.tracks }) }
     {
         let q = limited(self.problem);
-        let size = nets.len();
-        let old_columns = self.columns;
-        let old_tracks = self.tracks;
-        let left = counts_without(q, old_columns, old_tracks, nets);
-        let columns = left.columns;
-        let tracks = left.tracks;
-        let count = left.count;
-        if count != size {
-            return refused(self, 22, nets[count]);
+        let mut columns = self.columns;
+        let mut tracks = self.tracks;
+        if let Err(absent) = counts_without(&q, &mut columns, &mut tracks, nets) {
+            return refused(self, 22, nets[absent]);
         }
-        let repeat = first_repeat(nets);
-        if repeat != size {
+        if let Some(repeat) = first_repeat(nets) {
             return refused(self, 23, repeat);
         }
-        let before = q.pins;
-        let pins = without_nets(before, nets);
-        let problem = with_pins(q, fewer(q.nets, size), pins);
+        let pins = without_nets(&q.pins, nets);
+        let problem = with_pins(q, fewer(q.nets, nets.len()), pins);
         Edited {
             refusal: refuse(0, 0),
             board: Board {
@@ -255,12 +244,7 @@ impl Board {
     pub fn has_net(self, net: usize) -> bool
         ensures { result ≡ (within net largest_net && is_there (pins_in self.problem.pins) net) }
     {
-        if !is_within(net, Self::LARGEST_NET) {
-            return false;
-        }
-        let q = self.problem;
-        let pins = q.pins;
-        holds_net(pins, net as u8)
+        is_within(net, Self::LARGEST_NET) && holds_net(&self.problem.pins, net as u8)
     }
 
     // The number of nets.
@@ -271,7 +255,7 @@ impl Board {
     }
 
     // Writes the board's ticket, or says 19.
-    pub fn write_ticket(self, ticket: &mut [u8]) -> Written
+    pub fn write_ticket(self, ticket: &mut [u8]) -> Result<usize, Refusal>
         ensures { Sound self.problem → Wrote (bytes_of self.problem) ticket.old ticket.new result }
     {
         ticket_writer::write_ticket(limited(self.problem), ticket)

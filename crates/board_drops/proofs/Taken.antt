@@ -1,7 +1,7 @@
 -- The counts as the nets of a list are taken away one after the other: a net that is there, and none of those before it, takes its run
 -- away from the counts of the problem without those before it.
 use Prim.Native.Nat.{ℕ, ◌+◌, ◌<◌}
-use mathlib.Core.Path.{◌≡◌, sym, ap, ap₂, ◌∙◌, subst}
+use mathlib.Core.Path.{◌≡◌, sym, ap, ◌∙◌, subst}
 use mathlib.Core.Bool.{Bool, true, ◌||◌, or_comm}
 use mathlib.Core.List.{List, [], ◌∷◌, ◌++◌}
 use native.Mathlib.Numerals.{add-one}
@@ -19,17 +19,19 @@ use Rattle.board_law.specs.Runs.{Ends, TakenAway}
 use Rattle.board_law.proofs.Accepted.{new_at}
 use Rattle.board_law.proofs.Without.{without_none, next_sound, next_counts}
 use Rattle.board_pins.proofs.Frees.{found}
-use Rattle.board_sides.specs.declared.EndPlaces.{EndPlaces}
+use Rattle.board_sides.specs.Places.{first_in, last_in}
+use Rattle.board_sides.specs.declared.places.EndPlaces.{EndPlaces}
 use Rattle.board_counts.proofs.Recounts.{Recounts}
 
 -- a net that is on one of the four sides is there
 pub on_a_side : (ps : Pins) (m : ℕ) (a e : EndPlaces) {some : Bool}
-    → Ends (entry ps.south) (entry ps.north) m a.first a.last a.one a.two
-    → Ends (entry ps.west) (entry ps.east) m e.first e.last e.one e.two
-    → some ≡ ((a.one || a.two) || (e.one || e.two)) → some ≡ is_there (pins_in ps) m
+    → Ends (entry ps.south) (entry ps.north) m (first_in a.span) (last_in a.span) a.one a.two
+    → Ends (entry ps.west) (entry ps.east) m (first_in e.span) (last_in e.span) e.one e.two
+    → some ≡ (((a.one || a.two) || e.one) || e.two) → some ≡ is_there (pins_in ps) m
 on_a_side ps m a e x y either_one =
     either_one
-    ∙ ap₂ ◌||◌ (or_comm a.one a.two ∙ ap₂ ◌||◌ x.on_two x.on_one) (ap₂ ◌||◌ y.on_one y.on_two)
+    ∙ ap (λ (t : Bool). (t || e.one) || e.two) (or_comm a.one a.two)
+    ∙ (λ i. ((x.on_two i || x.on_one i) || y.on_one i) || y.on_two i)
     ∙ found (pins_in ps) m
 
 pub none_taken : {q : Problem} {columns tracks : List ℕ} → Sound q → TakenAway q [] columns tracks columns tracks

@@ -36,21 +36,21 @@ module _ (p : Pins) (m : ℕ) where
   a_side e =
       let (s, a, i, h) = a_pin p m (leb-true 1 (pin_count p m) e) in (s, some_of (λ a. eqb (p s a) m) longest_side a i (eq-eqb (p s a) m h))
 
-  pub found : (on_side north || on_side south) || (on_side west || on_side east) ≡ is_there p m
+  pub found : ((on_side north || on_side south) || on_side west) || on_side east ≡ is_there p m
   found = split (is_there p m) (λ e. some_true (a_side e) ∙ sym e)
       (λ e. all_false (none e north) (none e south) (none e west) (none e east) ∙ sym e)
     where
       none : is_there p m ≡ false → (s : Side) → on_side s ≡ false
       none e s = split (on_side s) (λ on. absurd (true≢false (sym (one_side s on) ∙ e))) (λ off. off)
 
-      some_true : (s : Side) × (on_side s ≡ true) → (on_side north || on_side south) || (on_side west || on_side east) ≡ true
+      some_true : (s : Side) × (on_side s ≡ true) → ((on_side north || on_side south) || on_side west) || on_side east ≡ true
       some_true (north, e) = rw e
       some_true (south, e) = rw (e, or-true (on_side north))
       some_true (west, e) = rw (e, or-true (on_side north || on_side south))
-      some_true (east, e) = rw (e, or-true (on_side west), or-true (on_side north || on_side south))
+      some_true (east, e) = rw (e, or-true ((on_side north || on_side south) || on_side west))
 
       all_false : on_side north ≡ false → on_side south ≡ false → on_side west ≡ false → on_side east ≡ false
-          → (on_side north || on_side south) || (on_side west || on_side east) ≡ false
+          → ((on_side north || on_side south) || on_side west) || on_side east ≡ false
       all_false a b c d = rw (a, b, c, d)
 
 -- ---- whether a place is free
@@ -110,34 +110,6 @@ pub freed : (q : Problem) (p : Pins) (v x k : ℕ) (s : Side) (r : Bool) → sid
     → k ≡ side_places q.kind q.n.0 q.byte2 s → r ≡ (within x k && eqb (p s x) 0) → r ≡ is_free q p v
 freed q p v x k s r on place size tested =
     tested ∙ (λ i. within (place i) (size i) && eqb (p s (place i)) 0) ∙ sym (free_on q p v s on)
-
-pub side_small : (kind n byte2 : ℕ) (s : Side) → n ≤ longest_side → by_kind kind 1 1 1 byte2 1 ≤ longest_side
-    → side_places kind n byte2 s ≤ longest_side
-side_small kind n byte2 s a b = split (is_kind kind) (λ e. small (known kind e) s a b) (λ e. none e s)
-  where
-    small : {k : ℕ} → Known k → (s : Side) → n ≤ longest_side → by_kind k 1 1 1 byte2 1 ≤ longest_side → side_places k n byte2 s ≤ longest_side
-    small is_row north a b = a
-    small is_row south a b = omega arith
-    small is_row west a b = omega arith
-    small is_row east a b = omega arith
-    small is_channel north a b = a
-    small is_channel south a b = a
-    small is_channel west a b = omega arith
-    small is_channel east a b = omega arith
-    small is_box north a b = a
-    small is_box south a b = a
-    small is_box west a b = b
-    small is_box east a b = b
-    small is_two_layer north a b = a
-    small is_two_layer south a b = a
-    small is_two_layer west a b = omega arith
-    small is_two_layer east a b = omega arith
-
-    none : is_kind kind ≡ false → (s : Side) → side_places kind n byte2 s ≤ longest_side
-    none e north = omega (arith, no_kind kind 0 n n n n e)
-    none e south = omega (arith, no_kind kind 0 0 n n n e)
-    none e west = omega (arith, no_kind kind 0 0 0 byte2 0 e)
-    none e east = omega (arith, no_kind kind 0 0 0 byte2 0 e)
 
 pub sides_fit : (q : Problem) → q.n.0 ≤ longest_side → width_of q ≤ longest_side → (s : Side) → places (shape_of q) s ≤ longest_side
 sides_fit q a b north = a

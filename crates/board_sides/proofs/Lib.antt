@@ -1,4 +1,3 @@
 pub mod Padding
-pub mod InPlace
 pub mod Left
 pub mod Seen

@@ -1,7 +1,7 @@
 -- Where two sides across from each other have a net, as a loop over their padded lists finds it, place by place.
 use Prim.Native.Nat.{ℕ, zero, suc, ◌+◌, ◌≤◌, ◌<◌, min, max}
 use mathlib.Core.Path.{◌≡◌, refl, sym, ap, ◌∙◌}
-use mathlib.Core.Logic.{by_cases}
+use mathlib.Core.Logic.{◌≢◌, by_cases}
 use mathlib.Core.Bool.{Bool, true, false, cond, ◌||◌}
 use native.Mathlib.Decide.{ℕ_discrete}
 use native.Mathlib.Omega.{arith}
@@ -9,7 +9,7 @@ use native.Mathlib.Numerals.{add-one}
 use lib.Dec.{eqb}
 use borrow.Author.Tests.{ne_eqb}
 use Rattle.counting.specs.Counting.{In, some, least}
-use Rattle.counting.proofs.Leasts.{least_le, least_same}
+use Rattle.counting.proofs.Leasts.{least_le, least_same, least_zero}
 use Rattle.counting.proofs.Tests.{some_more}
 use Rattle.terms.specs.Limits.{longest_side}
 use Rattle.nets.specs.Tables.{holds_at, first_held, last_held}
@@ -68,19 +68,20 @@ module _ (a b : ℕ → ℕ) (m : ℕ) where
   unfolding some least last_held
   seen_none = record { on_one = refl; on_two = refl; first = refl; last = refl }
 
-  pub seen_more : (i x y : ℕ) {low high low' high' : ℕ} {one two one' two' hit : Bool} → i + 1 < no_place
-      → x ≡ a (i + 1) → y ≡ b (i + 1) → hit ≡ (eqb x m || eqb y m) → one' ≡ (one || eqb x m) → two' ≡ (two || eqb y m)
-      → low' ≡ min low (cond hit (i + 1) no_place) → high' ≡ max high (cond hit (i + 1) 0)
-      → Seen a b m i low high one two → Seen a b m (i + 1) low' high' one' two'
-  seen_more i x y less ex ey eh eo et el eg s =
-      let hits = eh ∙ (λ j. eqb (ex j) m || eqb (ey j) m) in
+  pub seen_more : (i x y : ℕ) {low high low' high' least_here greatest_here : ℕ} {one two : Bool} → i + 1 < no_place
+      → x ≡ a (i + 1) → y ≡ b (i + 1)
+      → least_here ≡ cond (eqb x m || eqb y m) (i + 1) no_place → greatest_here ≡ cond (eqb x m || eqb y m) (i + 1) 0
+      → low' ≡ min low least_here → high' ≡ max high greatest_here
+      → Seen a b m i low high one two → Seen a b m (i + 1) low' high' (one || eqb x m) (two || eqb y m)
+  seen_more i x y {low} {high} less ex ey least_is greatest_is el eg s =
+      let hits : (eqb x m || eqb y m) ≡ holds_at a b m (i + 1) = λ j. eqb (ex j) m || eqb (ey j) m in
       record {
-        on_one = some_more (λ c. eqb (a c) m) i _ _ _ s.on_one (ap (λ (v : ℕ). eqb v m) ex) eo;
-        on_two = some_more (λ c. eqb (b c) m) i _ _ _ s.on_two (ap (λ (v : ℕ). eqb v m) ey) et;
-        first = el ∙ (λ j. min (s.first j) (cond (hits j) (i + 1) no_place))
+        on_one = some_more (λ c. eqb (a c) m) i _ _ _ s.on_one (ap (λ (v : ℕ). eqb v m) ex) refl;
+        on_two = some_more (λ c. eqb (b c) m) i _ _ _ s.on_two (ap (λ (v : ℕ). eqb v m) ey) refl;
+        first = el ∙ ap (min low) least_is ∙ (λ j. min (s.first j) (cond (hits j) (i + 1) no_place))
             ∙ first_next (first_held a b i m) i (holds_at a b m (i + 1)) (least_le (holds_at a b m) i) less
             ∙ ap or_no_place (sym (first_more i));
-        last = eg ∙ (λ j. max (s.last j) (cond (hits j) (i + 1) 0))
+        last = eg ∙ ap (max high) greatest_is ∙ (λ j. max (s.last j) (cond (hits j) (i + 1) 0))
             ∙ last_next (last_held a b i m) i (holds_at a b m (i + 1)) (last_le i) ∙ sym (last_more i);
       }
 
@@ -101,3 +102,32 @@ module _ (a b a' b' : ℕ → ℕ) (m low high : ℕ) (one two : Bool) where
 
       same : (c : ℕ) → In c longest_side → holds_at a' b' m c ≡ holds_at a b m c
       same c i j = net_here_lem m net p c i j || net_here_lem m net q c i j
+
+-- ---- whether there is a place
+
+last_none : (a b : ℕ → ℕ) (m top : ℕ) → ((c : ℕ) → In c top → holds_at a b m c ≡ false) → last_held a b top m ≡ 0
+unfolding last_held
+last_none a b m zero out = refl
+last_none a b m (suc top) out = rw (out (suc top) (omega arith)) (last_none a b m top (λ c i. out c (omega arith)))
+
+module _ {a b : ℕ → ℕ} {m low high : ℕ} {one two : Bool} (e : Ends a b m low high one two) where
+  abbrev first : ℕ
+  first = first_held a b longest_side m
+
+  first_le : first ≤ longest_side
+  first_le = least_le (holds_at a b m) longest_side
+
+  pub a_place : low ≢ no_place → low < no_place
+  a_place ne = by_cases (ℕ_discrete first 0)
+      (λ z. absurd (ne (e.first ∙ ap or_no_place z)))
+      (λ nz. let is : or_no_place first ≡ first = rw (ne_eqb first 0 nz) in omega (arith, e.first, is, first_le))
+
+  pub without_place : low ≡ no_place → Ends a b m no_place 0 one two
+  without_place out = by_cases (ℕ_discrete first 0)
+      (λ z. record {
+        on_one = e.on_one;
+        on_two = e.on_two;
+        first = sym out ∙ e.first;
+        last = sym (last_none a b m longest_side (λ c i. least_zero (holds_at a b m) longest_side c z i));
+      })
+      (λ nz. let is : or_no_place first ≡ first = rw (ne_eqb first 0 nz) in absurd (omega (arith, out, e.first, is, first_le)))

@@ -21,7 +21,7 @@ use board::{Board, Edited};
 use board_pins::{EAST_FROM, SOUTH_FROM, WEST_FROM};
 use std::io;
 use survey::SurveyAnswer;
-use terms::{BOX, larger, wide};
+use terms::BOX;
 use ticket::LONGEST_TICKET;
 
 // The bytes of the input.
@@ -66,14 +66,11 @@ fn add(board: Board, net: usize) -> Edited
 }
 
 fn full() -> Board {
-    let fresh = Board::start(wide(BOX), Board::LONGEST_SIDE, Board::LONGEST_SIDE);
+    let fresh = Board::start(usize::from(BOX), Board::LONGEST_SIDE, Board::LONGEST_SIDE);
     let mut board = fresh.board;
-    let mut net: usize = 0;
-    while net < Board::LARGEST_NET {
-        net += 1;
+    for net in 1..=Board::LARGEST_NET {
         let r = add(board, net);
-        let after = r.board;
-        board = after;
+        board = r.board;
     }
     board
 }
@@ -90,14 +87,12 @@ fn drop_one(board: Board, net: usize) -> Edited {
 }
 
 // The board of the last round.
-fn drops(board: Board, rounds: usize) -> Board {
+fn last_of<F: Fn(usize) -> Board>(board: Board, rounds: usize, step: F) -> Board
+    requires { F.IsAlwaysCallable step }
+{
     let mut last = board;
-    let mut round: usize = 0;
-    while round < rounds {
-        let r = drop_one(board, net_of(round));
-        let after = r.board;
-        last = after;
-        round += 1;
+    for round in 0..rounds {
+        last = step(round);
     }
     last
 }
@@ -110,97 +105,53 @@ fn drop_and_add(board: Board, net: usize) -> Edited
     add(without, net)
 }
 
-// The board of the last round.
-fn drops_and_adds(board: Board, rounds: usize) -> Board {
-    let mut last = board;
-    let mut round: usize = 0;
-    while round < rounds {
-        let r = drop_and_add(board, net_of(round));
-        let after = r.board;
-        last = after;
-        round += 1;
-    }
-    last
-}
-
 // All nets, in rising order in even rounds and in falling order in odd ones.
 fn all_nets(round: usize) -> [usize; Board::LARGEST_NET] {
     let rising = round % 2 == 0;
     let mut nets = [0usize; Board::LARGEST_NET];
-    let mut i: usize = 0;
-    while i < Board::LARGEST_NET {
+    for i in 0..Board::LARGEST_NET {
         nets[i] = if rising {
             1 + i
         } else {
             Board::LARGEST_NET - i
         };
-        i += 1;
     }
     nets
-}
-
-// The board of the last round.
-fn lists(board: Board, rounds: usize) -> Board {
-    let mut last = board;
-    let mut round: usize = 0;
-    while round < rounds {
-        let nets = all_nets(round);
-        let r = board.drop(&nets);
-        let after = r.board;
-        last = after;
-        round += 1;
-    }
-    last
 }
 
 // The board without these nets, which are dropped one after the other.
 fn without_each(board: Board, nets: &[usize]) -> Board {
     let mut left = board;
-    let mut i: usize = 0;
-    while i < nets.len() {
-        let r = drop_one(left, nets[i]);
-        let after = r.board;
-        left = after;
-        i += 1;
+    for net in nets {
+        let r = drop_one(left, *net);
+        left = r.board;
     }
     left
 }
 
-// The board of the last round.
-fn all_singly(board: Board, rounds: usize) -> Board {
-    let mut last = board;
-    let mut round: usize = 0;
-    while round < rounds {
-        let nets = all_nets(round);
-        last = without_each(board, &nets);
-        round += 1;
-    }
-    last
-}
-
 // A number that depends on all of a survey's figures.
 fn figure(a: SurveyAnswer) -> usize {
-    let along = larger(a.across, a.up);
-    larger(along, larger(wide(a.nets), grid::layer_count(a.floor)))
+    a.across
+        .max(a.up)
+        .max(usize::from(a.nets))
+        .max(grid::layer_count(a.floor))
 }
 
 // The figure of the last round.
 fn surveys(ticket: &[u8], rounds: usize) -> usize {
     let mut last = 0;
-    let mut round: usize = 0;
-    while round < rounds {
+    for _ in 0..rounds {
         last = figure(survey::survey(ticket));
-        round += 1;
     }
     last
 }
 
 // A number that depends on across, up and floor.
 fn figures_of(board: Board) -> usize {
-    larger(
-        larger(board.across(), board.up()),
-        grid::layer_count(board.floor()),
-    )
+    board
+        .across()
+        .max(board.up())
+        .max(grid::layer_count(board.floor()))
 }
 
 // The board of the last round, and what was read.
@@ -213,13 +164,10 @@ struct Read {
 fn drops_and_reads(board: Board, rounds: usize) -> Read {
     let mut last = board;
     let mut figures = 0;
-    let mut round: usize = 0;
-    while round < rounds {
+    for round in 0..rounds {
         let r = drop_one(board, net_of(round));
-        let after = r.board;
-        figures = larger(figures, figures_of(after));
-        last = after;
-        round += 1;
+        last = r.board;
+        figures = figures.max(figures_of(last));
     }
     Read {
         board: last,
@@ -229,25 +177,21 @@ fn drops_and_reads(board: Board, rounds: usize) -> Read {
 
 // What the rounds leave.
 fn done(mode: u8, board: Board, rounds: usize) -> Read {
-    match mode {
-        DROPS => Read {
-            board: drops(board, rounds),
-            figures: 0,
-        },
-        DROPS_AND_ADDS => Read {
-            board: drops_and_adds(board, rounds),
-            figures: 0,
-        },
-        DROPS_AND_READS => drops_and_reads(board, rounds),
-        LISTS => Read {
-            board: lists(board, rounds),
-            figures: 0,
-        },
-        ALL_SINGLY => Read {
-            board: all_singly(board, rounds),
-            figures: 0,
-        },
-        _ => Read { board, figures: 0 },
+    let last = match mode {
+        DROPS => last_of(board, rounds, |round| drop_one(board, net_of(round)).board),
+        DROPS_AND_ADDS => last_of(
+            board,
+            rounds,
+            |round| drop_and_add(board, net_of(round)).board,
+        ),
+        DROPS_AND_READS => return drops_and_reads(board, rounds),
+        LISTS => last_of(board, rounds, |round| board.drop(&all_nets(round)).board),
+        ALL_SINGLY => last_of(board, rounds, |round| without_each(board, &all_nets(round))),
+        _ => board,
+    };
+    Read {
+        board: last,
+        figures: 0,
     }
 }
 
@@ -255,7 +199,8 @@ fn done(mode: u8, board: Board, rounds: usize) -> Read {
 fn number_of(mode: u8, r: Read, rounds: usize) -> usize {
     let mut ticket = [0u8; LONGEST_TICKET];
     let board = r.board;
-    board.write_ticket(&mut ticket);
+    // no ticket is too long for it
+    let _ = board.write_ticket(&mut ticket);
     if mode == SURVEYS {
         return surveys(&ticket, rounds);
     }

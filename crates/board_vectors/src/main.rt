@@ -19,16 +19,13 @@
 // lent to the call. The second is the same of 196 bytes: the count at columns 0, 1, .. 97 and then the count at tracks 0, 1, .. 97.
 #![tactic(auto)]
 
-ghost use Rattle.std.specs.Prelude.{◌+◌, ◌≤◌, ◌≡◌, length, IfOk};
+ghost use Rattle.std.specs.Prelude.{◌*◌, ◌≤◌, ◌≡◌, length};
+ghost use Rattle.std.specs.Iterator.{at_most};
 
 use board::{Board, Edited};
-use output::Written;
-use records::{field, refusal_fields};
+use records::{field, outcome_fields, refusal_fields};
 use std::io;
-use terms::{BYTE_VALUES, ROW, larger, wide};
-
-// No code: the run ends.
-const NONE: u8 = 0;
+use terms::{BYTE_VALUES, ROW, Refusal};
 
 const START: u8 = 1;
 
@@ -56,21 +53,15 @@ const NARROW_NUMBER: usize = 2;
 
 const WIDE_NUMBER: usize = 8;
 
-// A record whose numbers stand from byte `from` to the byte before `end`, each of `size` bytes.
+// A record: its code, how many numbers it has, and these, each of `size` bytes.
 #[derive(Clone, Copy)]
-struct Record {
+struct Record<'a> {
     code: u8,
-    size: usize,
     count: usize,
-    from: usize,
-    end: usize,
-}
-
-// Where the next record starts, and the board after this one.
-#[derive(Clone, Copy)]
-struct Step {
-    next: usize,
-    board: Board,
+    size: usize,
+    body: &'a [u8],
+    ghost few: { count ≤ 512 },
+    ghost sized: { 2 ≤ size },
 }
 
 // How many numbers a code takes at least: more than a record may have where it is no code.
@@ -92,52 +83,48 @@ fn number_size(code: u8) -> usize
     WIDE_NUMBER
 }
 
-// The record at `at`; where it ends the run, one of no code and without numbers.
-fn record_at(s: &[u8], at: usize) -> Record
-    requires { at ≤ length s.now }
-    ensures { (result.from ≤ result.end) × (result.end ≤ length s.now) × (result.count ≤ 512) × (2 ≤ result.size) }
-{
-    let none = Record {
-        code: NONE,
-        size: NARROW_NUMBER,
-        count: 0,
-        from: at,
-        end: at,
-    };
-    if s.len() - at < HEAD {
-        return none;
-    }
-    let code = s[at] % WIDE;
-    let size = number_size(s[at]);
-    let count = records::pair(s, at + 1);
-    if MOST_NUMBERS < count {
-        return none;
-    }
-    if count < least_count(code) {
-        return none;
-    }
-    let from = at + HEAD;
-    let bytes = size * count;
-    if s.len() - from < bytes {
-        return none;
-    }
-    Record {
-        code,
-        size,
-        count,
-        from,
-        end: from + bytes,
+// The records of an input, up to the first that ends the run.
+#[derive(Drop)]
+struct Records<'a> {
+    rest: &'a [u8],
+}
+
+impl<'a> Iterator for Records<'a> {
+    type Item = Record<'a>;
+
+    ghost remaining = { λ s. at_most (length s.rest.now) };
+
+    fn next(&mut self) -> Option<Record<'a>> {
+        let (head, rest) = self.rest.split_first_chunk::<HEAD>()?;
+        let code = head[0] % WIDE;
+        let size = number_size(head[0]);
+        let count = records::pair(head, 1);
+        if MOST_NUMBERS < count || count < least_count(code) {
+            return None;
+        }
+        let bytes = size * count;
+        if rest.len() < bytes {
+            return None;
+        }
+        let (body, rest) = rest.split_at(bytes);
+        self.rest = rest;
+        Some(Record {
+            code,
+            count,
+            size,
+            body,
+        })
     }
 }
 
-// The number of `size` bytes at `at`.
-fn number_at(s: &[u8], at: usize, size: usize) -> usize
-    requires { (2 ≤ size) × (at + size ≤ length s.now) }
+// The number that stands in all of these bytes, two or eight.
+fn number_of(bytes: &[u8]) -> usize
+    requires { 2 ≤ length bytes.now }
 {
-    if size < WIDE_NUMBER {
-        return records::pair(s, at);
+    if bytes.len() < WIDE_NUMBER {
+        return records::pair(bytes, 0);
     }
-    records::eight(s, at)
+    records::eight(bytes, 0)
 }
 
 // The numbers of `size` bytes that stand in a record's body, and 0 after them.
@@ -145,15 +132,8 @@ fn numbers_of(body: &[u8], size: usize) -> [usize; MOST_NUMBERS]
     requires { 2 ≤ size }
 {
     let mut numbers = [0usize; MOST_NUMBERS];
-    let mut at = 0;
-    let mut i: usize = 0;
-    while i < MOST_NUMBERS {
-        if body.len() - at < size {
-            return numbers;
-        }
-        numbers[i] = number_at(body, at, size);
-        at += size;
-        i += 1;
+    for (number, bytes) in numbers.iter_mut().zip(body.chunks_exact(size)) {
+        *number = number_of(bytes);
     }
     numbers
 }
@@ -169,12 +149,11 @@ fn edit(board: Board, code: u8, numbers: &[usize], count: usize) -> Edited
         return board.drop(&numbers[0..count]);
     }
     // the record of an add has one number or more, which `count` does not say here
-    let end = larger(count, 1);
-    board.add(numbers[0], &numbers[1..end])
+    board.add(numbers[0], &numbers[1..count.max(1)])
 }
 
 // Writes the board's ticket into the first `size` bytes of the buffer, which is stained before.
-fn write(board: Board, size: usize, buffer: &mut [u8]) -> Written
+fn write(board: Board, size: usize, buffer: &mut [u8]) -> Result<usize, Refusal>
     requires { size ≤ length buffer.old }
 {
     records::stain(buffer);
@@ -184,11 +163,9 @@ fn write(board: Board, size: usize, buffer: &mut [u8]) -> Written
 // The counts at columns 0 to 97, and then those at tracks 0 to 97.
 fn counts_of(board: Board) -> [u8; 2 * COUNTS] {
     let mut counts = [0u8; 2 * COUNTS];
-    let mut c: usize = 0;
-    while c < COUNTS {
+    for c in 0..COUNTS {
         counts[c] = (board.count_at_column(c) % BYTE_VALUES) as u8;
         counts[COUNTS + c] = (board.count_at_track(c) % BYTE_VALUES) as u8;
-        c += 1;
     }
     counts
 }
@@ -197,14 +174,14 @@ fn counts_of(board: Board) -> [u8; 2 * COUNTS] {
 fn show(rt: &impl Print, r: Edited, net: usize, buffer: &mut [u8]) -> io::Result<()> {
     let board = r.board;
     refusal_fields(rt, r.refusal)?;
-    field(rt, terms::one_if(board.has_net(net)))?;
+    field(rt, usize::from(board.has_net(net)))?;
     field(rt, board.net_count())?;
     field(rt, board.across())?;
     field(rt, board.up())?;
     field(rt, grid::layer_count(board.floor()))?;
     let size = buffer.len();
     let w = write(board, size, buffer);
-    field(rt, w.length)?;
+    field(rt, w.unwrap_or(0))?;
     field(rt, records::hash(buffer, 0))?;
     records::last_field(rt, records::hash(&counts_of(board), 0))
 }
@@ -214,54 +191,30 @@ fn show_written(rt: &impl Print, board: Board, size: usize, buffer: &mut [u8]) -
     requires { size ≤ length buffer.old }
 {
     let w = write(board, size, buffer);
-    refusal_fields(rt, w.refusal)?;
-    field(rt, w.length)?;
+    outcome_fields(rt, w)?;
+    field(rt, w.unwrap_or(0))?;
     records::last_field(rt, records::hash(buffer, 0))
 }
 
-// Makes the call of a record; the next one starts at `at` itself where this one ends the run.
-fn one(rt: &impl Print, s: &[u8], at: usize, board: Board, buffer: &mut [u8]) -> io::Result<Step>
-    requires { at ≤ length s.now }
-    ensures { IfOk result (λ step. step.next ≤ length s.now) }
-{
-    let r = record_at(s, at);
-    let from = r.from;
-    let end = r.end;
-    if r.code == NONE {
-        return Ok(Step { next: at, board });
-    }
-    let numbers = numbers_of(&s[from..end], r.size);
-    let first = numbers[0];
-    if r.code == WRITE {
-        if buffer.len() < first {
-            return Ok(Step { next: at, board });
-        }
-        show_written(rt, board, first, buffer)?;
-        return Ok(Step { next: end, board });
-    }
-    let edited = edit(board, r.code, &numbers, r.count);
-    show(rt, edited, first, buffer)?;
-    let after = edited.board;
-    Ok(Step {
-        next: end,
-        board: after,
-    })
-}
-
-fn all(rt: &impl Print, s: &[u8], buffer: &mut [u8]) -> io::Result<()> {
-    let fresh = Board::start(wide(ROW), 1, 1);
+fn all(rt: &impl Print, input: &[u8], buffer: &mut [u8]) -> io::Result<()> {
+    let fresh = Board::start(usize::from(ROW), 1, 1);
     let mut board = fresh.board;
-    let mut at = 0;
-    loop {
-        let step = one(rt, s, at, board, buffer)?;
-        let next = step.next;
-        if next <= at {
-            return Ok(());
+    let records = Records { rest: input };
+    for record in records {
+        let numbers = numbers_of(record.body, record.size);
+        let first = numbers[0];
+        if record.code == WRITE {
+            if buffer.len() < first {
+                return Ok(());
+            }
+            show_written(rt, board, first, buffer)?;
+        } else {
+            let edited = edit(board, record.code, &numbers, record.count);
+            show(rt, edited, first, buffer)?;
+            board = edited.board;
         }
-        at = next;
-        let after = step.board;
-        board = after;
     }
+    Ok(())
 }
 
 fn main(rt: HostRuntime) -> io::Result<()> {

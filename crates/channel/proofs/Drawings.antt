@@ -5,11 +5,11 @@ use native.Mathlib.Nat.{mul_comm}
 use native.Mathlib.Decide.{dec_le}
 use mathlib.Core.Path.{◌≡◌, refl, sym, ◌∙◌}
 use mathlib.Core.List.{List}
-use lib.ListN.{length, get_or, take}
+use lib.ListN.{get_or, take}
 use lib.Seq.{get_or-take}
 use borrow.Author.Tests.{eq-eqb, ne_eqb}
 use Rattle.counting.specs.Counting.{In}
-use Rattle.terms.specs.Limits.{largest_net, longest_side, most_layers}
+use Rattle.terms.specs.Limits.{largest_net}
 use Rattle.grid.specs.Grid.{upright, point, Inside}
 use Rattle.grid.specs.Legal.{wiring_of, entry, column_pins}
 use Rattle.paint.specs.Paint.{Drawn}
@@ -19,7 +19,7 @@ use Rattle.trunks.specs.Trunks.{Trunks, Placed}
 use Rattle.channel_law.specs.Drawing.{Plan, Trunks as TrunksIn}
 use Rattle.channel_law.proofs.Legality.{row_legal, channel_legal}
 use Rattle.channel.specs.Given.{Given}
-use Rattle.channel.specs.Laying.{plan_of, base, Seated, Crossed}
+use Rattle.channel.specs.Laying.{plan_of, base, Seated, Crossed, Combed}
 use Rattle.channel.proofs.Plans.{none, spans, seated}
 
 -- the pins that a comb takes from an array's first n entries
@@ -51,44 +51,39 @@ module _ {plan : Plan} {n w k : ℕ} {mid : List ℕ} (a b : List ℕ) {before :
     untouched o h = c.others o h ∙ d.others o (omega (arith, mul_comm k (n * w)))
 
 -- what the trunks ask, once the combs are laid
-pub may_cross : {norths souths x mid : List ℕ} {n w h k : ℕ} (a b : List ℕ) (t : Trunks) → Given norths souths n w h k x → 2 * h ≤ k → k ≤ most_layers
-    → Placed norths souths n t
-    → Drawn n w x mid k (base a b)
-    → ((n ≤ longest_side) × (w ≤ longest_side) × (k ≤ most_layers) × (n * w * k ≤ length mid))
-    × (Seated (plan_of t w) (upright n w k) × TrunksIn (plan_of t w) (upright n w k) (wiring_of (upright n w k) mid) 0)
-may_cross {norths} {souths} {n = n} {w = w} {h = h} {k = k} a b t given two few placed d = (
-  (given.columns.1, given.tracks.1, few, omega (arith, given.room, d.long)),
-  (seated norths souths n w h k t placed given.tracks.0 given.passed two, no_trunks a b d),
-)
+pub may_cross : {norths souths x mid : List ℕ} {n w h k : ℕ} (a b : List ℕ) (t : Trunks) → Given norths souths n w h k x → 2 * h ≤ k
+    → Placed norths souths n t → Drawn n w x mid k (base a b)
+    → Seated (plan_of t w) (upright n w k) × TrunksIn (plan_of t w) (upright n w k) (wiring_of (upright n w k) mid) 0
+may_cross {norths} {souths} {n = n} {w = w} {h = h} {k = k} a b t given two placed d =
+    (seated norths souths n w h k t placed given.tracks.0 given.passed two, no_trunks a b d)
 
-module _ (norths souths : List ℕ) (t : Trunks) {n w h : ℕ} {before mid after : List ℕ} (placed : Placed norths souths n t) where
-  pub channel_laid : Given norths souths n w h (2 * h + 1) before → Drawn n w before mid (2 * h + 1) (base (take n norths) (take n souths))
-      → Crossed (plan_of t w) (upright n w (2 * h + 1)) mid after largest_net → Laid (upright n w (2 * h + 1)) (column_pins norths souths) before after
-  channel_laid given d c = record {
+module _ {norths souths : List ℕ} {n w h : ℕ} {before after : List ℕ} where
+  pub channel_laid : Given norths souths n w h (2 * h + 1) before → Combed norths souths souths n w (2 * h + 1) before after
+      → Laid (upright n w (2 * h + 1)) (column_pins norths souths) before after
+  channel_laid given m = record {
     legal = channel_legal {h = h} given.tracks.0 given.trunks.0 none none
-        (spans norths souths n w h (2 * h + 1) t placed given.tracks.0 given.passed (omega arith))
+        (spans norths souths n w h (2 * h + 1) m.trunks m.placed given.tracks.0 given.passed (omega arith))
         (record {
-          norths = λ i j l i' e. comb_one (take n norths) (take n souths) d c i j l i' e ∙ taken n norths i i'.0;
-          souths = λ i j l i' e. comb_three (take n norths) (take n souths) d c i j l i' e ∙ taken n souths i i'.0;
-          trunks = c.trunks;
+          norths = λ i j l i' e. comb_one (take n norths) (take n souths) m.combs m.crossed i j l i' e ∙ taken n norths i i'.0;
+          souths = λ i j l i' e. comb_three (take n norths) (take n souths) m.combs m.crossed i j l i' e ∙ taken n souths i i'.0;
+          trunks = m.crossed.trunks;
         });
-    long = c.long ∙ d.long;
-    others = untouched (take n norths) (take n souths) d c;
+    long = m.crossed.long ∙ m.combs.long;
+    others = untouched (take n norths) (take n souths) m.combs m.crossed;
   }
 
   pub row_laid : ((a : ℕ) → get_or souths a 0 ≡ 0) → Given norths souths n w h (2 * h) before
-      → Drawn n w before mid (2 * h) (base (take n norths) (take n norths))
-      → Crossed (plan_of t w) (upright n w (2 * h)) mid after largest_net → Laid (upright n w (2 * h)) (column_pins norths souths) before after
-  row_laid bare given d c = record {
+      → Combed norths souths norths n w (2 * h) before after → Laid (upright n w (2 * h)) (column_pins norths souths) before after
+  row_laid bare given m = record {
     legal = row_legal {h = h} given.tracks.0 given.trunks.0 none none (bare_list souths bare)
-        (spans norths souths n w h (2 * h) t placed given.tracks.0 given.passed (omega arith))
-        (record { norths = comb; trunks = c.trunks });
-    long = c.long ∙ d.long;
-    others = untouched (take n norths) (take n norths) d c;
+        (spans norths souths n w h (2 * h) m.trunks m.placed given.tracks.0 given.passed (omega arith))
+        (record { norths = comb; trunks = m.crossed.trunks });
+    long = m.crossed.long ∙ m.combs.long;
+    others = untouched (take n norths) (take n norths) m.combs m.crossed;
   }
     where
       comb : (i j l : ℕ) → Inside (upright n w (2 * h)) (point i j l) → l % 2 ≡ 1 → wiring_of (upright n w (2 * h)) after i j l ≡ entry norths i
       comb i j l i' odd = elim (dec_le (l % 4) 1) [
-        | yes one ↦ comb_one (take n norths) (take n norths) d c i j l i' (omega arith) ∙ taken n norths i i'.0
-        | no three ↦ comb_three (take n norths) (take n norths) d c i j l i' (omega arith) ∙ taken n norths i i'.0
+        | yes one ↦ comb_one (take n norths) (take n norths) m.combs m.crossed i j l i' (omega arith) ∙ taken n norths i i'.0
+        | no three ↦ comb_three (take n norths) (take n norths) m.combs m.crossed i j l i' (omega arith) ∙ taken n norths i i'.0
       ]

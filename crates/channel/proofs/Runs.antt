@@ -1,7 +1,6 @@
 -- A trunk is a run of bytes: the points that it claims are those whose bytes lie in the run.
 use Prim.Native.Nat.{ℕ, suc, ◌+◌, ◌*◌, ◌-◌, ◌/◌, ◌%◌, ◌≤◌, ◌<◌}
 use native.Mathlib.Omega.{arith}
-use native.Mathlib.Numerals.{add-one}
 use native.Mathlib.Nat.{zero-mul, mul-one}
 use native.Mathlib.Decide.{dec_le, dec_lt}
 use mathlib.Core.Path.{◌≡◌, refl, sym, ap, subst, ◌∙◌}
@@ -14,7 +13,7 @@ use Rattle.grid.specs.Legal.{index, wiring_of}
 use Rattle.grid.proofs.Buffer.{index_is, index_in, index_once, layer_from, layer_in}
 use Rattle.paint.specs.Paint.{Painted}
 use Rattle.paint.proofs.Laws.{put_painted}
-use Rattle.channel_law.specs.Drawing.{Plan, Claims, Trunks as TrunksIn}
+use Rattle.channel_law.specs.Drawing.{Plan, Claims}
 use Rattle.channel_law.proofs.Laying.{lay}
 use Rattle.trunks.specs.Trunks.{Trunks, left_of, right_of, place_of}
 use Rattle.channel.specs.Laying.{plan_of, Seated, Crossed}
@@ -48,16 +47,16 @@ module _ {n w k left right j l : ℕ} (h : left ≤ right) (r : right ≤ n) (i 
 
 module _ {plan : Plan} {g : Grid} {before now : List ℕ} {t : ℕ} (s : Seated plan g) (c : Crossed plan g before now t) where
   -- a net that lies in one column has no trunk
-  pub cross_none : plan.right (t + 1) ≤ plan.left (t + 1) → Crossed plan g before now (t + 1)
-  cross_none h = record {
-    trunks = rw (add-one t) (lay s.inside s.apart c.trunks (λ i j l k. absurd (none (suc t) (add-one t) k.0)) (λ i j l i' k. refl));
+  pub cross_none : {m : ℕ} → m ≡ suc t → plan.right m ≤ plan.left m → Crossed plan g before now m
+  cross_none {m} e h = record {
+    trunks = rw e (lay s.inside s.apart c.trunks (λ i j l k. absurd (none k.0)) (λ i j l i' k. refl));
     combs = c.combs;
     long = c.long;
     others = c.others;
   }
     where
-      none : (m : ℕ) → t + 1 ≡ m → plan.left m < plan.right m → ⊥
-      none m e lt = omega (arith, ap plan.left e, ap plan.right e)
+      none : plan.left (suc t) < plan.right (suc t) → ⊥
+      none lt = omega (arith, ap plan.left e, ap plan.right e)
 
   abbrev from : ℕ → ℕ
   from m = index g (plan.left m) (plan.track m) (plan.layer m)
@@ -94,7 +93,7 @@ module _ {plan : Plan} {g : Grid} {before now : List ℕ} {t : ℕ} (s : Seated 
       ]
     ]
 
-    laid : m ≡ suc t → Crossed plan g before after m
+    pub laid : m ≡ suc t → Crossed plan g before after m
     laid e = record {
       trunks = rw e (lay s.inside s.apart c.trunks (rw e at new) (rw e at old));
       combs = λ i j l h odd. old i j l h (λ k. absurd (omega (arith, s.flat m i j l k))) ∙ c.combs i j l h odd;
@@ -106,10 +105,6 @@ module _ {plan : Plan} {g : Grid} {before now : List ℕ} {t : ℕ} (s : Seated 
       ))) ∙ c.others b h;
     }
 
-  pub cross_one : plan.left (t + 1) < plan.right (t + 1) → {after : List ℕ} → Painted now after (from (t + 1)) (count (t + 1)) 1 (λ i j. t + 1)
-      → Crossed plan g before after (t + 1)
-  cross_one lt p = laid (t + 1) lt p (add-one t)
-
 -- the same of trunk places as code has them
 module _ (t : Trunks) (w m : ℕ) {g : Grid} {left right place : ℕ} (s : Seated (plan_of t w) g) (el : left ≡ left_of t m) (er : right ≡ right_of t m)
     (ep : place ≡ place_of t m) (lt : left < right) where
@@ -119,11 +114,8 @@ module _ (t : Trunks) (w m : ℕ) {g : Grid} {left right place : ℕ} (s : Seate
       let last = s.inside m (right_of t m) (place_of t m % w + 1) (2 * (place_of t m / w) + 2) (lt', refl, refl, omega arith, omega arith) in
       (omega arith, omega arith, rw (el, ep) (s.inside m _ _ _ (lt', refl, refl, omega arith, omega arith)))
 
-pub cross_at : (t : Trunks) (w : ℕ) {m left right place : ℕ} {g : Grid} {before now after : List ℕ} → Seated (plan_of t w) g
-    → Crossed (plan_of t w) g before now m → left ≡ left_of t (m + 1) → right ≡ right_of t (m + 1) → place ≡ place_of t (m + 1) → left < right
-    → Painted now after (index g left (place % w + 1) (2 * (place / w) + 2)) (right - left + 1) 1 (λ i j. m + 1) → Crossed (plan_of t w) g before after
-    (m + 1)
-cross_at t w s c el er ep lt p = cross_one s c (omega arith) (rw (el, er, ep) at p)
-
-pub cross_start : {plan : Plan} {g : Grid} {now : List ℕ} → TrunksIn plan g (wiring_of g now) 0 → Crossed plan g now now 0
-cross_start t = record { trunks = t; combs = λ i j l h k. refl; long = refl; others = λ b h. refl }
+pub cross_at : (t : Trunks) (w : ℕ) {k m left right place : ℕ} {g : Grid} {before now after : List ℕ} → Seated (plan_of t w) g
+    → Crossed (plan_of t w) g before now k → m ≡ suc k → left ≡ left_of t m → right ≡ right_of t m → place ≡ place_of t m → left < right
+    → Painted now after (index g left (place % w + 1) (2 * (place / w) + 2)) (right - left + 1) 1 (λ i j. m)
+    → Crossed (plan_of t w) g before after m
+cross_at t w {m = m} s c next el er ep lt p = laid s c m (omega arith) (rw (el, er, ep) at p) next

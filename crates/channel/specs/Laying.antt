@@ -6,10 +6,14 @@
 --   Seated plan g                   each trunk lies on a horizontal layer of the grid, and no two share a point
 --   Crossed plan g before after t   the trunks of nets 1 to t are laid: the horizontal layers hold them and nothing else,
 --                                   the vertical ones what they held
-use Rattle.std.specs.Prelude.{ℕ, ◌+◌, ◌*◌, ◌/◌, ◌%◌, ◌≤◌, ◌≡◌, cond, List, length, get_or, eqb}
-use Rattle.grid.specs.Grid.{Grid, point, Inside}
+--   Combed north south b n w k before after
+--                                   the combs of the north pins and of the pins b are laid, and the trunks of the nets across them
+use Rattle.std.specs.Prelude.{ℕ, ◌+◌, ◌*◌, ◌/◌, ◌%◌, ◌≤◌, ◌≡◌, cond, List, length, get_or, take, eqb}
+use Rattle.grid.specs.Grid.{Grid, upright, point, Inside}
 use Rattle.grid.specs.Legal.{Wiring, wiring_of, entry}
-use Rattle.trunks.specs.Trunks.{Trunks, left_of, right_of, place_of}
+use Rattle.terms.specs.Limits.{largest_net}
+use Rattle.paint.specs.Paint.{Drawn}
+use Rattle.trunks.specs.Trunks.{Trunks, left_of, right_of, place_of, Placed}
 use Rattle.channel_law.specs.Drawing.{Plan, Claims, Trunks as TrunksIn}
 
 abbrev pub plan_of : Trunks → ℕ → Plan
@@ -31,3 +35,11 @@ pub record Crossed (plan : Plan) (g : Grid) (before after : List ℕ) (t : ℕ) 
   pub combs : (i j l : ℕ) → Inside g (point i j l) → l % 2 ≡ 1 → wiring_of g after i j l ≡ wiring_of g before i j l
   pub long : length after ≡ length before
   pub others : (b : ℕ) → g.n * g.w * g.k ≤ b → get_or after b 0 ≡ get_or before b 0
+
+pub record Combed (north south b : List ℕ) (n w k : ℕ) (before after : List ℕ) : Type 0 where
+  pub trunks : Trunks
+  pub placed : Placed north south n trunks
+  -- the wiring with its combs alone
+  pub bare : List ℕ
+  pub combs : Drawn n w before bare k (base (take n north) (take n b))
+  pub crossed : Crossed (plan_of trunks w) (upright n w k) bare after largest_net

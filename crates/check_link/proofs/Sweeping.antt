@@ -1,8 +1,9 @@
 -- Sweeps compose: what two runs over edges do one after the other is one sweep over the edges of both, because a run adds only marks that no run goes on from.
-use Prim.Native.Nat.{ℕ, ◌+◌, ◌<◌, max}
-use mathlib.Core.Path.{◌≡◌, refl, sym, ap, ◌∙◌, subst, ap₂}
+use Prim.Native.Nat.{ℕ, ◌+◌, ◌<◌}
+use mathlib.Core.Path.{◌≡◌, refl, sym, ap, ◌∙◌, subst}
 use mathlib.Core.Logic.{◌⊎◌, inl, inr, ◌≢◌, ⊎_elim}
 use mathlib.Core.List.{List}
+use mathlib.Core.Bool.{Bool, true, false, ◌||◌, true≢false}
 use native.Mathlib.Omega.{arith}
 use native.Mathlib.Decide.{ℕ_discrete}
 use lib.ListN.{length, set}
@@ -103,10 +104,6 @@ module _ {A : Type 0} {v : A → ℕ} where
   pub below_all : {σ σ₁ : State A} {c : ℕ} (F : ℕ → A → A → Type 0) (i top : ℕ) → i ≡ top → Swept v σ σ₁ (Below F i) c → Swept v σ σ₁ (Below F top) c
   below_all {σ} {σ₁} {c} F i top e s = subst (λ (u : ℕ). Swept v σ σ₁ (Below F u) c) e s
 
-  -- the edge from a to b, where both are alike or hold different values
-  pub only_quiet : {σ : State A} (a b : A) → Shut (v a) (v b) (σ.mark a) (σ.mark b) (σ.mark a) (σ.mark b) → Swept v σ σ (Only a b) 0
-  only_quiet {σ} a b s = swept_quiet (Only a b) (λ c d e. rw (e.0, e.1) s)
-
   -- the edge from a to b, and a or b is marked
   only_marked : {σ σ' : State A} (a b i o : A) → Marked σ σ' i → σ.mark o ≡ 1 → v i ≡ v o → (Only a b i o) ⊎ (Only a b o i) → Swept v σ σ' (Only a b) 1
   only_marked {σ} {σ'} a b i o m old q e =
@@ -138,41 +135,47 @@ module _ {A : Type 0} {v : A → ℕ} where
   pub only_second : {σ σ' : State A} (a b : A) → v a ≡ v b → σ.mark a ≡ 1 → Marked σ σ' b → Swept v σ σ' (Only a b) 1
   only_second a b q h m = only_marked a b b a m h (sym q) (inr (refl, refl))
 
-pub marked_one : (m : List ℕ) (i : ℕ) → i < length m → at m i ≡ 0 → Marked (one m) (one (set m i 2)) i
+marked_one : (m : List ℕ) (i : ℕ) → i < length m → at m i ≡ 0 → Marked (one m) (one (set m i 2)) i
 marked_one m i h z = record { was = z; is = get_or-set_same m i 2 0 h; rest = elsewhere m i 2; fewer = zeros_set m i 1 h z }
+
+-- one edge between points, of which the other end was reached before
+pub first_marked : (x m : List ℕ) (a b : ℕ) → at x a ≡ at x b → at m a ≡ 0 → at m b ≡ 1 → a < length m
+    → Swept (at x) (one m) (one (set m a 2)) (Only a b) 1
+first_marked x m a b e z o h = only_first a b e o (marked_one m a h z)
+
+pub second_marked : (x m : List ℕ) (a b : ℕ) → at x a ≡ at x b → at m a ≡ 1 → at m b ≡ 0 → b < length m
+    → Swept (at x) (one m) (one (set m b 2)) (Only a b) 1
+second_marked x m a b e o z h = only_second a b e o (marked_one m b h z)
 
 -- ---- edges that ask for no mark
 
 module _ (x m : List ℕ) (start : ℕ) where
-  pub all_none : (gap : ℕ) → AllShut x m start 0 gap 0
+  pub all_none : (gap : ℕ) → AllShut x m start 0 gap false
   all_none gap = record { none = λ z a b e. absurd (omega (arith, e.1)); some = λ f. refl }
 
   abbrev Quiet : ℕ → ℕ → Type 0
   Quiet a b = Shut (at x a) (at x b) (at m a) (at m b) (at m a) (at m b)
 
   -- one more edge, of which o says whether it asks
-  pub all_more : (t gap found o r : ℕ) → AllShut x m start t gap found
-      → (o ≡ 0 → Quiet (start + t) (start + t + gap)) × (Quiet (start + t) (start + t + gap) → o ≡ 0) → r ≡ max found o
-      → AllShut x m start (t + 1) gap r
-  all_more t gap found o r s h e' =
+  pub all_more : (t gap : ℕ) (found o : Bool) → AllShut x m start t gap found
+      → (o ≡ false → Quiet (start + t) (start + t + gap)) × (Quiet (start + t) (start + t + gap) → o ≡ false)
+      → AllShut x m start (t + 1) gap (found || o)
+  all_more t gap true o s h =
+      record { none = λ z. absurd (true≢false z); some = λ f. s.some (λ a b e. f a b (e.0, omega (arith, e.1), e.2)) }
+  all_more t gap false o s h =
       record {
         none = λ z a b e. elim (ℕ_discrete e.0 t) [
-          | yes q ↦ rw (e.2.0, e.2.1, q) (h.0 (omega arith))
-          | no n ↦ s.none (omega arith) a b (e.0, omega (arith, e.1), e.2)
+          | yes q ↦ rw (e.2.0, e.2.1, q) (h.0 z)
+          | no n ↦ s.none refl a b (e.0, omega (arith, e.1), e.2)
         ];
-        some = λ f. (
-            let u : found ≡ 0 = s.some (λ a b e. f a b (e.0, omega (arith, e.1), e.2)) in
-            let v : o ≡ 0 = h.1 (f (start + t) (start + t + gap) (t, omega arith, (refl, refl))) in
-            omega arith);
+        some = λ f. h.1 (f (start + t) (start + t + gap) (t, omega arith, (refl, refl)));
       }
-
-  pub all_shut : (t count gap r : ℕ) → t ≡ count → AllShut x m start t gap r → AllShut x m start count gap r
-  all_shut t count gap r e s = subst (λ (c : ℕ). AllShut x m start c gap r) e s
-
--- the same of two indices
-pub swept_at₂ : {I J A : Type 0} {v : A → ℕ} {σ σ' : State A} {c : ℕ} (F : I → J → A → A → Type 0) {i i' : I} {j j' : J} → i ≡ i' → j ≡ j'
-    → Swept v σ σ' (F i j) c → Swept v σ σ' (F i' j') c
-swept_at₂ {v = v} {σ} {σ'} {c} F p q s = subst (λ (E : _). Swept v σ σ' E c) (ap₂ F p q) s
 
 pub swept_at : {I A : Type 0} {v : A → ℕ} {σ σ' : State A} {c : ℕ} (F : I → A → A → Type 0) (i j : I) → i ≡ j → Swept v σ σ' (F i) c → Swept v σ σ' (F j) c
 swept_at {I} {v} {σ} {σ'} {c} F i j e s = subst (λ (u : I). Swept v σ σ' (F u) c) e s
+
+-- the same of three numbers
+pub swept_at₃ : {A : Type 0} {v : A → ℕ} {σ σ' : State A} {c : ℕ} (F : ℕ → ℕ → ℕ → A → A → Type 0) {h h' i i' j j' : ℕ} → h ≡ h' → i ≡ i' → j ≡ j'
+    → Swept v σ σ' (F h i j) c → Swept v σ σ' (F h' i' j') c
+swept_at₃ F {h} {h'} {i} {i'} {j} {j'} p q r s =
+    swept_at (λ (u : ℕ). F u i' j') h h' p (swept_at (λ (u : ℕ). F h u j') i i' q (swept_at (F h i) j j' r s))

@@ -1,25 +1,21 @@
 -- The edges between points, as the sweep's loops go over them: the joins of the grid, by index. Cited by the contracts of inner
 -- functions alone; Check's promise speaks of the grid's own joins.
 --
---   counted n w k f    the grid of these counts, with layer 1 horizontal (f: true) or vertical
 --   horizontal f l     layer l + 1 is horizontal
 --   Only a b           the one edge from a to b
 --   Below F top        the edges of F 0, F 1, .. F (top - 1)
 --   When is E          the edges E, or none
 --   Run start count gap    from each of count points from start on, to the point gap further
---   Along, Layer, Points   within a layer at q, from a layer to the next too, and of all layers
---   AllShut x m .. r   no edge of a run asks for a mark, just where r is 0
+--   Along q n w flat   within a layer at q
+--   UpOf, AlongOf, LayerOf g l   from layer l + 1 to the next, within it, and both
+--   Points g           of all layers
+--   AllShut x m .. r   no edge of a run asks for a mark, just where r is false
 --   Shape g            the counts are those that Check takes
---   PointsFit g x m    the lengths of the points and their marks
---   LayerFits          what a layer's loops ask of these lengths
-use Rattle.std.specs.Prelude.{ℕ, ◌+◌, ◌*◌, ◌-◌, ◌%◌, ◌<◌, ◌≤◌, Bool, true, false, ◌≡◌, ◌⊎◌, List, ltb, eqb}
+use Rattle.std.specs.Prelude.{ℕ, ◌+◌, ◌*◌, ◌-◌, ◌%◌, ◌<◌, Bool, true, false, ◌≡◌, ◌⊎◌, List, ltb, eqb}
 use Rattle.counting.specs.Counting.{In}
 use Rattle.terms.specs.Limits.{longest_side, widest_grid, most_layers}
 use Rattle.grid.specs.Grid.{Grid}
 use Rattle.check_link.specs.Marks.{at, Shut}
-
-abbrev pub counted : ℕ → ℕ → ℕ → Bool → Grid
-counted n w k first = record { n = n; w = w; k = k; first = first }
 
 abbrev pub horizontal : Bool → ℕ → Bool
 horizontal true l = eqb (l % 2) 0
@@ -46,31 +42,23 @@ abbrev pub Along : ℕ → ℕ → ℕ → Bool → ℕ → ℕ → Type 0
 Along q n w true = Rows q n w
 Along q n w false = Run q (n * w - n) n
 
-abbrev pub Layer : ℕ → ℕ → ℕ → Bool → Bool → ℕ → ℕ → Type 0
-Layer q n w last flat a b = When last (Run q (n * w) (n * w)) a b ⊎ Along q n w flat a b
+abbrev pub UpOf : Grid → ℕ → ℕ → ℕ → Type 0
+UpOf g l = When (ltb (l + 1) g.k) (Run (l * (g.n * g.w)) (g.n * g.w) (g.n * g.w))
+
+abbrev pub AlongOf : Grid → ℕ → ℕ → ℕ → Type 0
+AlongOf g l = Along (l * (g.n * g.w)) g.n g.w (horizontal g.first l)
 
 abbrev pub LayerOf : Grid → ℕ → ℕ → ℕ → Type 0
-LayerOf g l = Layer (l * (g.n * g.w)) g.n g.w (ltb (l + 1) g.k) (horizontal g.first l)
+LayerOf g l a b = UpOf g l a b ⊎ AlongOf g l a b
 
 abbrev pub Points : Grid → ℕ → ℕ → Type 0
 Points g = Below (LayerOf g) g.k
 
-pub record LayerFits (x q n w : ℕ) (above : Bool) : Type 0 where
-  pub long : 1 ≤ n
-  pub wide : 1 ≤ w
-  pub own : q + n * w ≤ x
-  pub next : above ≡ true → q + n * w + n * w ≤ x
-
-pub record AllShut (x m : List ℕ) (start count gap r : ℕ) : Type 0 where
-  pub none : r ≡ 0 → (a b : ℕ) → Run start count gap a b → Shut (at x a) (at x b) (at m a) (at m b) (at m a) (at m b)
-  pub some : ((a b : ℕ) → Run start count gap a b → Shut (at x a) (at x b) (at m a) (at m b) (at m a) (at m b)) → r ≡ 0
+pub record AllShut (x m : List ℕ) (start count gap : ℕ) (r : Bool) : Type 0 where
+  pub none : r ≡ false → (a b : ℕ) → Run start count gap a b → Shut (at x a) (at x b) (at m a) (at m b) (at m a) (at m b)
+  pub some : ((a b : ℕ) → Run start count gap a b → Shut (at x a) (at x b) (at m a) (at m b) (at m a) (at m b)) → r ≡ false
 
 pub record Shape (g : Grid) : Type 0 where
   pub long : In g.n longest_side
   pub wide : In g.w widest_grid
   pub deep : In g.k most_layers
-
-pub record PointsFit (g : Grid) (x m : ℕ) : Type 0 where
-  pub shape : Shape g
-  pub size : x ≡ g.n * g.w * g.k
-  pub marks : m ≡ x

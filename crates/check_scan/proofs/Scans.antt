@@ -1,28 +1,24 @@
 -- The loops over pins and points, one entry more at a time.
 use Prim.Native.Nat.{ℕ, ◌+◌, ◌≤◌, ◌<◌, min}
-use mathlib.Core.Path.{◌≡◌, refl, sym, ap, ◌∙◌, subst}
+use mathlib.Core.Path.{◌≡◌, sym, ap, ◌∙◌, subst}
 use mathlib.Core.Logic.{inl, inr, ◌≢◌, ⊎_elim}
 use mathlib.Core.List.{List}
 use native.Mathlib.Omega.{arith}
+use borrow.Author.Tests.{eq-eqb, ne_eqb}
+use lib.Dec.{eqb}
+use mir.Val.{bool_byte}
 use native.Mathlib.Decide.{ℕ_discrete, dec_lt, dec_le}
 use lib.ListN.{length, set, replicate, length-replicate, get_or-replicate, get_or-eq_default}
 use lib.Seq.{get_or-set_same, get_or-set_other}
 use Rattle.terms.specs.Limits.{byte_values}
 use Rattle.check_link.specs.Marks.{at}
 use Rattle.check_sweep.specs.Reached.{Spot, a_pin, a_point, val}
-use Rattle.check_scan.specs.Scan.{Holder, First, Opened, Unless, Bare, Lowest, LowestOf, no_net}
+use Rattle.check_scan.specs.Scan.{Holder, First, Opened, Bare, Lowest, LowestOf, no_net}
 
 -- ---- cleared entries
 
-pub clear_more : (m : List ℕ) (i : ℕ) → i < length m → ((q : ℕ) → q < i → at m q ≡ 0) → (q : ℕ) → q < i + 1 → at (set m i 0) q ≡ 0
-clear_more m i h f q l =
-    elim (ℕ_discrete q i) [
-      | yes e ↦ ap (at (set m i 0)) e ∙ get_or-set_same m i 0 0 h
-      | no n ↦ get_or-set_other m i q 0 0 n ∙ f q (omega arith)
-    ]
-
-pub clear_all : (m : List ℕ) (i : ℕ) → length m ≤ i → ((q : ℕ) → q < i → at m q ≡ 0) → (q : ℕ) → at m q ≡ 0
-clear_all m i h f q = elim (dec_lt q i) [ yes l ↦ f q l | no n ↦ get_or-eq_default m 0 (omega arith) ]
+pub clear_all : (n : ℕ) (q : ℕ) → at (replicate n 0) q ≡ 0
+clear_all n q = elim (dec_lt q n) [ yes h ↦ get_or-replicate n q 0 0 h | no o ↦ get_or-eq_default (replicate n 0) 0 (rw length-replicate (omega arith)) ]
 
 -- ---- the nets of the pins
 
@@ -46,9 +42,9 @@ opened_start p s =
         omega arith
 
 module _ (p s k : List ℕ) (a r : ℕ) (opened : Opened p s k a) (in_s : a < length s) (in_k : at p a < length k) (byte : at p a < byte_values)
-    (mark : Unless (at k (at p a)) r) where
+    (new : at k (at p a) ≡ 0 → r ≢ 0) (old : at k (at p a) ≢ 0 → r ≡ 0) where
   new_known : r ≢ 0 → at k (at p a) ≡ 0
-  new_known h = elim (ℕ_discrete (at k (at p a)) 0) [ yes z ↦ z | no n ↦ absurd (h (mark.old n)) ]
+  new_known h = elim (ℕ_discrete (at k (at p a)) 0) [ yes z ↦ z | no n ↦ absurd (h (old n)) ]
 
   new_first : r ≢ 0 → First p a
   new_first h =
@@ -58,7 +54,7 @@ module _ (p s k : List ℕ) (a r : ℕ) (opened : Opened p s k a) (in_s : a < le
   first_new : First p a → r ≢ 0
   first_new f =
       elim (ℕ_discrete (at k (at p a)) 0) [
-        | yes z ↦ mark.new z
+        | yes z ↦ new z
         | no n ↦ absurd (⊎_elim f.some (λ o. f.none o.0 o.1 o.2) (opened.known (at p a) byte n))
       ]
 
@@ -88,14 +84,14 @@ module _ (p s k : List ℕ) (a r : ℕ) (opened : Opened p s k a) (in_s : a < le
       earlier : (v : ℕ) → v ≢ at p a → (Holder p a v → ⊥) → (b : ℕ) → b < a + 1 → at p b ≡ v → ⊥
       earlier v n none b l e = elim (ℕ_discrete b a) [ yes q ↦ n (sym e ∙ ap (at p) q) | no o ↦ none (b, omega arith, e) ]
 
--- the same, with the number of the pin under another name
-pub opened_at : (p s k : List ℕ) (a v r : ℕ) → v ≡ at p a → Opened p s k a → a < length s → at p a < length k → at p a < byte_values → Unless (at k v) r
-    → Opened p (set s a r) (set k v 1) (a + 1)
-opened_at p s k a v r e o i j b m =
-    subst (λ (u : ℕ). Opened p (set s a r) (set k u 1) (a + 1)) (sym e) (opened_more p s k a r o i j b (subst (λ (u : ℕ). Unless (at k u) r) e m))
-
-pub opened_all : (p s k : List ℕ) (a top : ℕ) → a ≡ top → Opened p s k a → Opened p s k top
-opened_all p s k a top e o = subst (Opened p s k) e o
+-- the same, with the number of the pin under another name, and the mark as a byte of the test
+pub opened_at : (p s k : List ℕ) (a v r : ℕ) → v ≡ at p a → r ≡ bool_byte (eqb (at k v) 0) → Opened p s k a → a < length s → at p a < length k
+    → at p a < byte_values → Opened p (set s a r) (set k v 1) (a + 1)
+opened_at p s k a v r e is o i j b =
+    subst (λ (u : ℕ). Opened p (set s a r) (set k u 1) (a + 1)) (sym e)
+    (opened_more p s k a r o i j b
+    (λ z u. (let one : r ≡ 1 = is ∙ ap bool_byte (eq-eqb _ _ (ap (at k) e ∙ z)) in omega arith))
+    (λ ne. is ∙ ap bool_byte (ne_eqb _ _ (λ z. ne (sym (ap (at k) e) ∙ z)))))
 
 -- ---- the smallest net without a mark
 
@@ -122,9 +118,6 @@ lowest_more x m q best u r l b s =
       ];
     }
 
-pub lowest_all : (x m : List ℕ) (q top r : ℕ) → q ≡ top → Lowest x m q r → Lowest x m top r
-lowest_all x m q top r e l = subst (λ (z : ℕ). Lowest x m z r) e l
-
 inside : (x : List ℕ) (q : ℕ) → at x q ≢ 0 → q < length x
 inside x q ne = elim (dec_lt q (length x)) [ yes h ↦ h | no n ↦ absurd (ne (get_or-eq_default x 0 (omega arith))) ]
 
@@ -132,9 +125,6 @@ module _ (p s x m : List ℕ) (a b r : ℕ) (pins : Lowest p s (length p) a) (po
   none_under : (c : Spot) → val p x c ≢ 0 → val s m c ≡ 0 → r ≤ val p x c
   none_under (a_pin c) ne z = omega (arith, pins.under c (inside p c ne) ne z)
   none_under (a_point c) ne z = omega (arith, points.under c (inside x c ne) ne z)
-
-  pub lowest_none_of : r ≡ no_net → LowestOf p s x m 0
-  lowest_none_of e = record { under = λ c ne h o z. omega (arith, none_under c ne z); has = λ ne. absurd (ne refl) }
 
   pub lowest_of : r ≢ no_net → LowestOf p s x m r
   lowest_of ne =

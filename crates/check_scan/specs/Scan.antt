@@ -9,11 +9,11 @@
 --   Opened p s k top      of the first top pins: each net's first is marked in s, and k is 0 just for the numbers of no net (of all
 --                         bytes; 0 counts as known)
 --   FirstUnknown k x r    r is the first point of x whose number is unknown, or x's length
---   Unless known r        r marks a pin whose net was not known yet
 --   Bare v mark r         r is v where that is a net without a mark, else no_net
 --   Lowest x m top r      r is the smallest number but 0 that one of the first top entries of x holds without a mark in m, or no_net
+--   net_of, point_or      what an optional net or point is as a number
 --   LowestOf p s x m r    r is the smallest net of a spot without a mark, or 0
-use Rattle.std.specs.Prelude.{ℕ, ◌+◌, ◌-◌, ◌≤◌, ◌<◌, ◌≡◌, ◌⊎◌, ◌≢◌, List, length}
+use Rattle.std.specs.Prelude.{ℕ, ◌+◌, ◌-◌, ◌≤◌, ◌<◌, ◌≡◌, ◌⊎◌, ◌≢◌, List, length, Option, Some, None}
 use Rattle.terms.specs.Limits.{longest_side, widest_grid, byte_values}
 use Rattle.problem.specs.declared.Pins.{Pins as TicketPins}
 use Rattle.check_link.specs.Marks.{at}
@@ -55,9 +55,15 @@ pub record FirstUnknown (k x : List ℕ) (r : ℕ) : Type 0 where
   pub before : (q : ℕ) → q < r → at k (at x q) ≢ 0
   pub found : r < length x → at k (at x r) ≡ 0
 
-pub record Unless (known r : ℕ) : Type 0 where
-  pub new : known ≡ 0 → r ≢ 0
-  pub old : known ≢ 0 → r ≡ 0
+-- the number of a net, 0 for none
+abbrev pub net_of : Option ℕ → ℕ
+net_of None = 0
+net_of (Some m) = m
+
+-- a point, or the length where there is none
+abbrev pub point_or : ℕ → Option ℕ → ℕ
+point_or n None = n
+point_or n (Some q) = q
 
 pub record Bare (v mark r : ℕ) : Type 0 where
   pub net : v ≢ 0 → mark ≡ 0 → r ≤ v

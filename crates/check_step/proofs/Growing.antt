@@ -1,16 +1,17 @@
 -- What a claim marks is reached, where an edge leads to it from a marked spot that holds the same.
-use Prim.Native.Nat.{ℕ, ◌<◌}
+use Prim.Native.Nat.{ℕ, ◌*◌, ◌<◌}
 use mathlib.Core.Path.{◌≡◌, refl, sym, ap, ◌∙◌, subst}
 use mathlib.Core.Logic.{◌⊎◌, inl, inr, ◌≢◌, ⊎_elim}
 use mathlib.Core.Bool.{Bool, true, false}
-use mathlib.Core.List.{List, []}
+use mathlib.Core.List.{List}
 use native.Mathlib.Omega.{arith}
+use Rattle.std.specs.Prelude.{Option, Some, None, IfSome}
 use lib.ListN.{length, set}
 use lib.Seq.{get_or-set_same}
 use Rattle.grid.specs.Grid.{Grid}
 use Rattle.check_link.specs.Marks.{at, State}
 use Rattle.check_sweep.specs.Reached.{Spot, a_pin, a_point, val, two, Reach, here, on, back, Grown}
-use Rattle.check_link.specs.Edges.{horizontal}
+use Rattle.check_link.specs.Edges.{horizontal, Shape}
 use Rattle.check_sweep.specs.Pins.{Edges}
 use Rattle.check_link.proofs.Zeros.{elsewhere}
 use Rattle.check_sweep.proofs.Settling.{grown_none, grown_then}
@@ -52,47 +53,38 @@ module _ (p s x m : List ℕ) {E : Spot → Spot → Type 0} where
       rest (a_pin b) = ⊎_elim (λ e. inl (ap a_pin e)) inr (elsewhere s a d b)
       rest (a_point q) = inr refl
 
--- a cell beside a marked one that holds the same is reached
-near_reach : {g : Grid} (p s x m : List ℕ) {c r : Cell} → Stepped g c r → at m c.q ≢ 0 → at x c.q ≡ at x r.q
-    → Reach (val p x) (val s m) (Edges g) (a_point r.q)
-near_reach {g} p s x m t h q =
-    ⊎_elim (λ e. subst (λ (b : ℕ). Reach (val p x) (val s m) (Edges g) (a_point b)) e (here h))
-    (⊎_elim (λ e. on (here h) e q) (λ e. back (here h) e (sym q))) t.near
+-- ---- a step from a marked cell c
 
--- ---- a try to mark the cell `to` beside c
+module _ {g : Grid} {x m : List ℕ} {c : Cell} {v : ℕ} where
+  -- a cell beside it that holds the same is marked
+  pub moved_on : {to : Cell} {d : ℕ} → Shape g → length x ≡ g.n * g.w * g.k → length m ≡ length x → Ready g x m c v → Stepped g c to
+      → (at x to.q ≡ v) × (at m to.q ≡ 0) → d ≢ 0 → Moved g x m (set m to.q d) (Some to)
+  moved_on {to} {d} shape size marks y t (e, z) nz = record { cell = t.cell; grown = λ p s. grown_mark (a_point to.q) (rest p s) marked (reach p s) }
+    where
+      rest : (p s : List ℕ) (a : Spot) → (a ≡ a_point to.q) ⊎ (val s (set m to.q d) a ≡ val s m a)
+      rest p s (a_pin a) = inr refl
+      rest p s (a_point q) = ⊎_elim (λ e. inl (ap a_point e)) inr (elsewhere m to.q d q)
 
-module _ {g : Grid} {x m m' : List ℕ} {c to : Cell} {v d : ℕ} {r : Bool}
-    (y : Ready g x m c v) (t : Stepped g c to) (k : Claimed x m m' to.q v d r) (nz : d ≢ 0) where
-  tried : (p s : List ℕ) → Grown (val p x) (two s m) (two s m') (Edges g)
-  tried p s =
-      claimed_point p s x m m' to.q v d r k (in_buffer y.fits t.cell).1 nz (λ e. near_reach p s x m t y.marked (y.holds ∙ sym e))
+      marked : at (set m to.q d) to.q ≢ 0
+      marked u = nz (sym (get_or-set_same m to.q d 0 (in_buffer shape size marks t.cell).1) ∙ u)
 
-  -- whoever goes on there, or elsewhere
-  pub moved_to : {z : Cell} → On g z → Moved g x m m' z
-  moved_to o = record { cell = o; grown = tried }
+      reach : (p s : List ℕ) → Reach (val p x) (val s m) (Edges g) (a_point to.q)
+      reach p s = ⊎_elim (λ f. on (here y.marked) f (y.holds ∙ sym e)) (λ f. back (here y.marked) f (e ∙ sym y.holds)) t.near
 
-  pub moved_then : {m'' : List ℕ} {z : Cell} → Moved g x m' m'' z → Moved g x m m'' z
-  moved_then h = record { cell = h.cell; grown = λ p s. grown_then (tried p s) (h.grown p s) }
-
-  pub still_ready : length m' ≡ length m → Ready g x m' c v
-  still_ready e =
-      record {
-        fits = record { shape = y.fits.shape; size = y.fits.size; marks = e ∙ y.fits.marks };
-        cell = y.cell;
-        marked = (tried [] []).keep (a_point c.q) y.marked;
-        holds = y.holds;
-      }
+-- nothing is marked
+pub moved_back : {g : Grid} {x m : List ℕ} (c : Cell) (r : Option Cell) → IfSome r (Stepped g c) → Moved g x m m r
+moved_back c (Some r) t = record { cell = t.cell; grown = λ p s. grown_none }
+moved_back c None t = record { cell = tt; grown = λ p s. grown_none }
 
 -- ---- the pins that a cell touches
 
 pub met_none : {g : Grid} {p s : List ℕ} {q v : ℕ} → Met g p s s q v
 met_none = record { grown = λ x m e k. grown_none }
 
-pub met_one : {g : Grid} {c : Cell} {p s s' : List ℕ} {a v : ℕ} {h r : Bool} → On g c → horizontal g.first c.l ≡ h → Claimed p s s' a v 1 r
-    → a < length s
-    → (r ≡ true → Tip g a c.i c.j h) → Met g p s s' c.q v
-met_one {p = p} {s} {s'} {a} {v} {h} {r} o e t l f = record {
-  grown = λ x m q k. claimed_pin p s x m s' a v 1 r t l (λ z. omega arith) (λ y w. back (here k) (tip_edge o a h e (f y)) (w ∙ sym q));
+pub met_one : {g : Grid} {c : Cell} (p s : List ℕ) {s' : List ℕ} (a v : ℕ) {r : Bool} → On g c → Claimed p s s' a v 1 r → a < length s
+    → Tip g a c.i c.j (horizontal g.first c.l) → Met g p s s' c.q v
+met_one p s {s'} a v {r} o t l tip = record {
+  grown = λ x m q k. claimed_pin p s x m s' a v 1 r t l (λ z. omega arith) (λ y w. back (here k) (tip_edge o a _ refl tip) (w ∙ sym q));
 }
 
 pub met_then : {g : Grid} {p s s₁ s₂ : List ℕ} {q v : ℕ} → Met g p s s₁ q v → Met g p s₁ s₂ q v → Met g p s s₂ q v

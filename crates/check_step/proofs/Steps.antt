@@ -9,7 +9,7 @@ use Rattle.terms.specs.Kinds.{north, south, west, east}
 use Rattle.grid.specs.Grid.{Grid, Node, pin, point, Inside, Edge, along_column, along_track, via, north_pin, south_pin, west_pin, east_pin}
 use Rattle.grid.proofs.Sizes.{area_le, points_le}
 use Rattle.check_sweep.specs.Reached.{Spot, a_pin, a_point}
-use Rattle.check_link.specs.Edges.{horizontal, Shape, PointsFit}
+use Rattle.check_link.specs.Edges.{horizontal, Shape}
 use Rattle.check_sweep.specs.Pins.{Edges}
 use Rattle.check_link.proofs.Offsets.{rows_in, next_row}
 use Rattle.check_sweep.proofs.Places.{spot, edge_of, index_cell, is_horizontal, is_vertical}
@@ -31,17 +31,11 @@ small {g} {c} s o =
       area = area_le g.n g.w s.long.1 s.wide.1;
     }
 
-pub in_buffer : {g : Grid} {x m : ℕ} {c : Cell} → PointsFit g x m → On g c → (c.q < x) × (c.q < m)
-in_buffer fits o = let h = small fits.shape o in omega (arith, h.inside, fits)
+pub in_buffer : {g : Grid} {x m : ℕ} {c : Cell} → Shape g → x ≡ g.n * g.w * g.k → m ≡ x → On g c → (c.q < x) × (c.q < m)
+in_buffer shape e a o = let h = small shape o in omega (arith, h.inside)
 
 less : (a b : ℕ) → 0 < a → a * b ≡ (a - 1) * b + b
 less a b h = ap (λ (u : ℕ). u * b) (omega arith) ∙ next_row (a - 1) b
-
-pub row_before : {g : Grid} {c : Cell} → On g c → 0 < c.j → g.n ≤ c.q
-row_before {g} {c} o h = omega (arith, o.is, less c.j g.n h)
-
-pub layer_before : {g : Grid} {c : Cell} → On g c → 0 < c.l → g.n * g.w ≤ c.q
-layer_before {g} {c} o h = omega (arith, o.is, less c.l (g.n * g.w) h)
 
 -- ---- cells and nodes
 
@@ -69,52 +63,49 @@ module _ (g : Grid) where
       (edge_of g (node c) (node r) (node_in c o) (node_in r h) (subst (Edge g (node c)) (same_node x y z) d))
 
 module _ {g : Grid} {c : Cell} (o : On g c) where
-  pub stay : {d : ℕ} → Stepped g c (record { q = c.q; i = c.i; j = c.j; l = c.l; d = d })
-  stay = record { cell = record { column = o.column; track = o.track; layer = o.layer; is = o.is }; near = inl refl }
-
-  pub step_right : {d : ℕ} → horizontal g.first c.l ≡ true → c.i + 1 < g.n
-      → Stepped g c (record { q = c.q + 1; i = c.i + 1; j = c.j; l = c.l; d = d })
+  pub step_right : {tried : ℕ} → horizontal g.first c.l ≡ true → c.i + 1 < g.n
+      → Stepped g c (record { q = c.q + 1; i = c.i + 1; j = c.j; l = c.l; tried = tried })
   unfolding node
-  step_right {d} f h =
-      let r : Cell = record { q = c.q + 1; i = c.i + 1; j = c.j; l = c.l; d = d } in
+  step_right {tried} f h =
+      let r : Cell = record { q = c.q + 1; i = c.i + 1; j = c.j; l = c.l; tried = tried } in
       let p : On g r = record { column = h; track = o.track; layer = o.layer; is = omega (arith, o.is) } in
-      record { cell = p; near = inr (inl (hop g c r o p (along_track (is_horizontal g.first c.l f)) (omega arith) refl refl)) }
+      record { cell = p; near = inl (hop g c r o p (along_track (is_horizontal g.first c.l f)) (omega arith) refl refl) }
 
-  pub step_left : {d : ℕ} → horizontal g.first c.l ≡ true → 0 < c.i
-      → Stepped g c (record { q = c.q - 1; i = c.i - 1; j = c.j; l = c.l; d = d })
+  pub step_left : {tried : ℕ} → horizontal g.first c.l ≡ true → 0 < c.i
+      → Stepped g c (record { q = c.q - 1; i = c.i - 1; j = c.j; l = c.l; tried = tried })
   unfolding node
-  step_left {d} f h =
-      let r : Cell = record { q = c.q - 1; i = c.i - 1; j = c.j; l = c.l; d = d } in
+  step_left {tried} f h =
+      let r : Cell = record { q = c.q - 1; i = c.i - 1; j = c.j; l = c.l; tried = tried } in
       let p : On g r = record { column = omega (arith, o.column); track = o.track; layer = o.layer; is = omega (arith, o.is) } in
-      record { cell = p; near = inr (inr (hop g r c p o (along_track (is_horizontal g.first c.l f)) (omega arith) refl refl)) }
+      record { cell = p; near = inr (hop g r c p o (along_track (is_horizontal g.first c.l f)) (omega arith) refl refl) }
 
-  pub step_on : {d n : ℕ} → horizontal g.first c.l ≡ false → n ≡ g.n → c.j + 1 < g.w
-      → Stepped g c (record { q = c.q + n; i = c.i; j = c.j + 1; l = c.l; d = d })
+  pub step_on : {tried n : ℕ} → horizontal g.first c.l ≡ false → n ≡ g.n → c.j + 1 < g.w
+      → Stepped g c (record { q = c.q + n; i = c.i; j = c.j + 1; l = c.l; tried = tried })
   unfolding node
-  step_on {d} {n} f b h =
-      let r : Cell = record { q = c.q + n; i = c.i; j = c.j + 1; l = c.l; d = d } in
+  step_on {tried} {n} f b h =
+      let r : Cell = record { q = c.q + n; i = c.i; j = c.j + 1; l = c.l; tried = tried } in
       let p : On g r = record { column = o.column; track = h; layer = o.layer; is = omega (arith, o.is, next_row c.j g.n) } in
-      record { cell = p; near = inr (inl (hop g c r o p (along_column (is_vertical g.first c.l f)) refl (omega arith) refl)) }
+      record { cell = p; near = inl (hop g c r o p (along_column (is_vertical g.first c.l f)) refl (omega arith) refl) }
 
-  pub step_back : {d n : ℕ} → horizontal g.first c.l ≡ false → n ≡ g.n → 0 < c.j
-      → Stepped g c (record { q = c.q - n; i = c.i; j = c.j - 1; l = c.l; d = d })
+  pub step_back : {tried n : ℕ} → horizontal g.first c.l ≡ false → n ≡ g.n → 0 < c.j
+      → Stepped g c (record { q = c.q - n; i = c.i; j = c.j - 1; l = c.l; tried = tried })
   unfolding node
-  step_back {d} {n} f b h =
-      let r : Cell = record { q = c.q - n; i = c.i; j = c.j - 1; l = c.l; d = d } in
+  step_back {tried} {n} f b h =
+      let r : Cell = record { q = c.q - n; i = c.i; j = c.j - 1; l = c.l; tried = tried } in
       let p : On g r = record { column = o.column; track = omega (arith, o.track); layer = o.layer; is = omega (arith, o.is, less c.j g.n h) } in
-      record { cell = p; near = inr (inr (hop g r c p o (along_column (is_vertical g.first c.l f)) refl (omega arith) refl)) }
+      record { cell = p; near = inr (hop g r c p o (along_column (is_vertical g.first c.l f)) refl (omega arith) refl) }
 
-  pub step_up : {d a : ℕ} → a ≡ g.n * g.w → c.l + 1 < g.k → Stepped g c (record { q = c.q + a; i = c.i; j = c.j; l = c.l + 1; d = d })
+  pub step_up : {tried a : ℕ} → a ≡ g.n * g.w → c.l + 1 < g.k → Stepped g c (record { q = c.q + a; i = c.i; j = c.j; l = c.l + 1; tried = tried })
   unfolding node
-  step_up {d} {a} b h =
-      let r : Cell = record { q = c.q + a; i = c.i; j = c.j; l = c.l + 1; d = d } in
+  step_up {tried} {a} b h =
+      let r : Cell = record { q = c.q + a; i = c.i; j = c.j; l = c.l + 1; tried = tried } in
       let p : On g r = record { column = o.column; track = o.track; layer = h; is = omega (arith, o.is, next_row c.l (g.n * g.w)) } in
-      record { cell = p; near = inr (inl (hop g c r o p via refl refl (omega arith))) }
+      record { cell = p; near = inl (hop g c r o p via refl refl (omega arith)) }
 
-  pub step_down : {d a : ℕ} → a ≡ g.n * g.w → 0 < c.l → Stepped g c (record { q = c.q - a; i = c.i; j = c.j; l = c.l - 1; d = d })
+  pub step_down : {tried a : ℕ} → a ≡ g.n * g.w → 0 < c.l → Stepped g c (record { q = c.q - a; i = c.i; j = c.j; l = c.l - 1; tried = tried })
   unfolding node
-  step_down {d} {a} b h =
-      let r : Cell = record { q = c.q - a; i = c.i; j = c.j; l = c.l - 1; d = d } in
+  step_down {tried} {a} b h =
+      let r : Cell = record { q = c.q - a; i = c.i; j = c.j; l = c.l - 1; tried = tried } in
       let p : On g r = record {
         column = o.column;
         track = o.track;
@@ -122,7 +113,7 @@ module _ {g : Grid} {c : Cell} (o : On g c) where
         is = omega
             (arith, o.is, less c.l (g.n * g.w) h);
       } in
-      record { cell = p; near = inr (inr (hop g r c p o via refl refl (omega arith))) }
+      record { cell = p; near = inr (hop g r c p o via refl refl (omega arith)) }
 
   -- the pins that a cell touches
   pin_edge : (u : Node) {a i j l : ℕ} → Inside g u → spot g u ≡ a_pin a → Edge g u (point i j l)

@@ -1,29 +1,48 @@
 // One step of a depth-first walk over whatever is joined to the marked pins. The walk keeps the way back in the marks.
 //
-// A point's mark is the direction in which the walk came to it: 1 ahead and 2 back in the layer's own direction, 3 up, 4 down; 5 from
-// a pin. A pin's mark is 1 while its points wait to be walked from, and 2 afterwards.
+// A point's mark is the direction in which the walk came to it: AHEAD and BEHIND in the layer's own direction, ABOVE, BELOW; FROM_PIN
+// where it began. A pin's mark is 1 while its points wait to be walked from, and 2 afterwards.
 #![tactic(auto)]
 
-ghost use Rattle.std.specs.Prelude.{◌≡◌, ◌≢◌, true, ◌<◌, length};
+ghost use Rattle.std.specs.Prelude.{◌≡◌, ◌≢◌, true, ◌<◌, length, IfSome};
 ghost use Rattle.grid.specs.Grid.{grid_of};
 ghost use Rattle.check_link.specs.Marks.{at};
-ghost use Rattle.check_link.specs.Edges.{Shape};
-ghost use Rattle.check_sweep.specs.Pins.{Fits, pin_places};
-ghost use Rattle.check_step.specs.Step.{On, Stepped, Claimed, Moved, Met, Walked, Ready};
+ghost use Rattle.check_link.specs.Edges.{horizontal};
+ghost use Rattle.check_sweep.specs.Pins.{pin_places};
+ghost use Rattle.check_step.specs.Step.{On, Tip, Stepped, Claimed, Moved, Met, Walked, Ready};
 
 use check_link::is_horizontal;
+use check_link::wired::{PIN_PLACES, Wired};
 use check_sweep::{EAST_START, SOUTH_START, WEST_START};
-use grid::{Frame, area, column_count, layer_count, track_count};
+use grid::{area, column_count, layer_count, track_count};
 
-// Point q of the buffer, in column i, track j and layer l, all from 0, and the next direction to try there: 1 to 4, 5 for none, so
-// that the walk goes back, 6 at the walk's end.
+const AHEAD: u8 = 1;
+
+const BEHIND: u8 = 2;
+
+const ABOVE: u8 = 3;
+
+const BELOW: u8 = 4;
+
+pub const FROM_PIN: u8 = 5;
+
+// Point q of the buffer, in column i, track j and layer l, all from 0, and how many of the directions were tried there, in the order of
+// their numbers.
 #[derive(Clone, Copy)]
 pub struct Cell {
     pub q: usize,
     pub i: usize,
     pub j: usize,
     pub l: usize,
-    pub d: u8,
+    pub tried: u8,
+}
+
+// Whether entry b has no mark and holds v.
+fn is_free(x: &[u8], m: &[u8], b: usize, v: u8) -> bool
+    requires { (b < length x.now) × (b < length m.now) }
+    ensures { result ≡ true → (at x.now b ≡ v) × (at m.now b ≡ 0) }
+{
+    x[b] == v && m[b] == 0
 }
 
 // Entry b is marked d where it has no mark and holds v. (For our own crates.)
@@ -31,264 +50,205 @@ pub fn claim(x: &[u8], m: &mut [u8], b: usize, v: u8, d: u8) -> bool
     requires { (b < length x.now) × (b < length m.old) }
     ensures { Claimed x.now m.old m.new b v d result }
 {
-    if x[b] != v {
-        return false;
+    let free = is_free(x, m, b, v);
+    if free {
+        m[b] = d;
     }
-    if m[b] != 0 {
-        return false;
-    }
-    m[b] = d;
-    true
+    free
 }
 
-// The same, where the test holds.
-fn claim_if(test: bool, x: &[u8], m: &mut [u8], b: usize, v: u8, d: u8) -> bool
-    requires { (b < length x.now) × (b < length m.old) }
-    ensures { Claimed x.now m.old m.new b v d result × (result ≡ true → test ≡ true) }
+// The next point in the layer's own direction, where so many directions were tried; none where the grid ends.
+fn ahead(x: Wired, c: Cell, tried: u8) -> Option<Cell>
+    requires { On (grid_of x.frame) c }
+    ensures { IfSome result (Stepped (grid_of x.entry.frame) c) }
 {
-    if test {
-        return claim(x, m, b, v, d);
-    }
-    false
-}
-
-// The next point in the layer's own direction, or c where the grid ends; d is to be tried there.
-fn ahead(c: Cell, f: Frame, d: u8) -> Cell
-    requires { Shape (grid_of f) × On (grid_of f) c }
-    ensures { Stepped (grid_of f) c result }
-{
-    let q = c.q;
-    let i = c.i;
-    let j = c.j;
-    let l = c.l;
-    let n = column_count(f.n);
-    if is_horizontal(l, f.first) {
+    let Cell { q, i, j, l, .. } = c;
+    let n = column_count(x.frame.n);
+    if is_horizontal(l, x.frame.first) {
         if i + 1 < n {
-            return Cell {
+            return Some(Cell {
                 q: q + 1,
                 i: i + 1,
                 j,
                 l,
-                d,
-            };
+                tried,
+            });
         }
-        return Cell { q, i, j, l, d };
+        return None;
     }
-    if j + 1 < track_count(f.w) {
-        return Cell {
+    if j + 1 < track_count(x.frame.w) {
+        return Some(Cell {
             q: q + n,
             i,
             j: j + 1,
             l,
-            d,
-        };
+            tried,
+        });
     }
-    Cell { q, i, j, l, d }
+    None
 }
 
-// The point before c in the layer's own direction, or c where the grid ends.
-fn behind(c: Cell, f: Frame, d: u8) -> Cell
-    requires { On (grid_of f) c }
-    ensures { Stepped (grid_of f) c result }
+// The point before c in the layer's own direction.
+fn behind(x: Wired, c: Cell, tried: u8) -> Option<Cell>
+    requires { On (grid_of x.frame) c }
+    ensures { IfSome result (Stepped (grid_of x.entry.frame) c) }
 {
-    let q = c.q;
-    let i = c.i;
-    let j = c.j;
-    let l = c.l;
-    if is_horizontal(l, f.first) {
+    let Cell { q, i, j, l, .. } = c;
+    if is_horizontal(l, x.frame.first) {
         if 0 < i {
-            return Cell {
+            return Some(Cell {
                 q: q - 1,
                 i: i - 1,
                 j,
                 l,
-                d,
-            };
+                tried,
+            });
         }
-        return Cell { q, i, j, l, d };
+        return None;
     }
     if 0 < j {
-        return Cell {
-            q: q - column_count(f.n),
+        return Some(Cell {
+            q: q - column_count(x.frame.n),
             i,
             j: j - 1,
             l,
-            d,
-        };
+            tried,
+        });
     }
-    Cell { q, i, j, l, d }
+    None
 }
 
-// The point on the next layer, or c where the grid ends.
-fn above(c: Cell, f: Frame, d: u8) -> Cell
-    requires { Shape (grid_of f) × On (grid_of f) c }
-    ensures { Stepped (grid_of f) c result }
+// The point on the next layer.
+fn above(x: Wired, c: Cell, tried: u8) -> Option<Cell>
+    requires { On (grid_of x.frame) c }
+    ensures { IfSome result (Stepped (grid_of x.entry.frame) c) }
 {
-    let q = c.q;
-    let i = c.i;
-    let j = c.j;
-    let l = c.l;
-    if l + 1 < layer_count(f.k) {
-        return Cell {
-            q: q + area(f.n, f.w),
+    let Cell { q, i, j, l, .. } = c;
+    if l + 1 < layer_count(x.frame.k) {
+        return Some(Cell {
+            q: q + area(x.frame.n, x.frame.w),
             i,
             j,
             l: l + 1,
-            d,
-        };
+            tried,
+        });
     }
-    Cell { q, i, j, l, d }
+    None
 }
 
-// The point on the layer before, or c where the grid ends.
-fn below(c: Cell, f: Frame, d: u8) -> Cell
-    requires { Shape (grid_of f) × On (grid_of f) c }
-    ensures { Stepped (grid_of f) c result }
+// The point on the layer before.
+fn below(x: Wired, c: Cell, tried: u8) -> Option<Cell>
+    requires { On (grid_of x.frame) c }
+    ensures { IfSome result (Stepped (grid_of x.entry.frame) c) }
 {
-    let q = c.q;
-    let i = c.i;
-    let j = c.j;
-    let l = c.l;
+    let Cell { q, i, j, l, .. } = c;
     if 0 < l {
-        return Cell {
-            q: q - area(f.n, f.w),
+        return Some(Cell {
+            q: q - area(x.frame.n, x.frame.w),
             i,
             j,
             l: l - 1,
-            d,
-        };
+            tried,
+        });
     }
-    Cell { q, i, j, l, d }
+    None
 }
 
-// Back to where the walk came from, with the next direction to try there; the end where it began.
-fn retreat(c: Cell, mark: u8, f: Frame) -> Cell
-    requires { Shape (grid_of f) × On (grid_of f) c }
-    ensures { Stepped (grid_of f) c result }
+// Back to where the walk came from, by the mark; none where it began.
+fn retreat(x: Wired, c: Cell, mark: u8) -> Option<Cell>
+    requires { On (grid_of x.frame) c }
+    ensures { IfSome result (Stepped (grid_of x.entry.frame) c) }
 {
-    if mark == 1 {
-        return behind(c, f, 2);
-    }
-    if mark == 2 {
-        return ahead(c, f, 3);
-    }
-    if mark == 3 {
-        return below(c, f, 4);
-    }
-    if mark == 4 {
-        return above(c, f, 5);
-    }
-    Cell {
-        q: c.q,
-        i: c.i,
-        j: c.j,
-        l: c.l,
-        d: 6,
+    match mark {
+        AHEAD => behind(x, c, AHEAD),
+        BEHIND => ahead(x, c, BEHIND),
+        ABOVE => below(x, c, ABOVE),
+        BELOW => above(x, c, BELOW),
+        _ => None,
     }
 }
 
-// On to the point below where it can be marked, or else back. The point that the walk came from, by c's mark, is not tried, to save time.
-// A function of the direction in place of the four that follow made Check half as slow again.
-fn try_below(x: &[u8], m: &mut [u8], c: Cell, mark: u8, v: u8, f: Frame) -> Cell
-    requires { Ready (grid_of f) x.now m.old c v }
-    ensures { Moved (grid_of f) x.now m.old m.new result }
+// On in the first of the directions not tried where there is a point to mark, or else back. The point that the walk came from, by
+// the mark, is not tried, to save time.
+fn onward(x: Wired, m: &mut [u8], c: Cell, mark: u8, v: u8) -> Option<Cell>
+    requires { Ready (grid_of x.frame) x.points.now m.old c v × (length m.old ≡ length x.points.now) }
+    ensures { Moved (grid_of x.entry.frame) x.entry.points.now m.old m.new result }
 {
-    let to = below(c, f, 1);
-    let b = to.q;
-    if claim_if(mark != 3, x, m, b, v, 4) {
-        return to;
+    if c.tried < AHEAD && mark != BEHIND {
+        if let Some(to) = ahead(x, c, 0) {
+            if is_free(x.points, m, to.q, v) {
+                m[to.q] = AHEAD;
+                return Some(to);
+            }
+        }
     }
-    retreat(c, mark, f)
+    if c.tried < BEHIND && mark != AHEAD {
+        if let Some(to) = behind(x, c, 0) {
+            if is_free(x.points, m, to.q, v) {
+                m[to.q] = BEHIND;
+                return Some(to);
+            }
+        }
+    }
+    if c.tried < ABOVE && mark != BELOW {
+        if let Some(to) = above(x, c, 0) {
+            if is_free(x.points, m, to.q, v) {
+                m[to.q] = ABOVE;
+                return Some(to);
+            }
+        }
+    }
+    if c.tried < BELOW && mark != ABOVE {
+        if let Some(to) = below(x, c, 0) {
+            if is_free(x.points, m, to.q, v) {
+                m[to.q] = BELOW;
+                return Some(to);
+            }
+        }
+    }
+    retreat(x, c, mark)
 }
 
-// The same with the point above tried first.
-fn try_above(x: &[u8], m: &mut [u8], c: Cell, mark: u8, v: u8, f: Frame) -> Cell
-    requires { Ready (grid_of f) x.now m.old c v }
-    ensures { Moved (grid_of f) x.now m.old m.new result }
+// The pin at place a is marked, to be walked from, where cell c touches it and it holds v.
+fn meet_pin(x: Wired, s: &mut [u8; PIN_PLACES], c: Cell, a: usize, v: u8, touches: bool)
+    requires cell { On (grid_of x.frame) c }
+    requires place { a < pin_places }
+    requires tip { touches ≡ true → Tip (grid_of x.frame) a c.i c.j (horizontal x.frame.first c.l) }
+    ensures { Met (grid_of x.entry.frame) x.entry.pins.now s.old s.new c.q v }
 {
-    let to = above(c, f, 1);
-    let b = to.q;
-    if claim_if(mark != 4, x, m, b, v, 3) {
-        return to;
+    if !touches {
+        return;
     }
-    try_below(x, m, c, mark, v, f)
-}
-
-fn try_behind(x: &[u8], m: &mut [u8], c: Cell, mark: u8, v: u8, f: Frame) -> Cell
-    requires { Ready (grid_of f) x.now m.old c v }
-    ensures { Moved (grid_of f) x.now m.old m.new result }
-{
-    let to = behind(c, f, 1);
-    let b = to.q;
-    if claim_if(mark != 1, x, m, b, v, 2) {
-        return to;
-    }
-    try_above(x, m, c, mark, v, f)
-}
-
-fn try_ahead(x: &[u8], m: &mut [u8], c: Cell, mark: u8, v: u8, f: Frame) -> Cell
-    requires { Ready (grid_of f) x.now m.old c v }
-    ensures { Moved (grid_of f) x.now m.old m.new result }
-{
-    let to = ahead(c, f, 1);
-    let b = to.q;
-    if claim_if(mark != 2, x, m, b, v, 1) {
-        return to;
-    }
-    try_behind(x, m, c, mark, v, f)
-}
-
-// On in the first of the directions left to try, or else back.
-fn onward(x: &[u8], m: &mut [u8], c: Cell, mark: u8, v: u8, f: Frame) -> Cell
-    requires { Ready (grid_of f) x.now m.old c v }
-    ensures { Moved (grid_of f) x.now m.old m.new result }
-{
-    let d = c.d;
-    if d == 1 {
-        return try_ahead(x, m, c, mark, v, f);
-    }
-    if d == 2 {
-        return try_behind(x, m, c, mark, v, f);
-    }
-    if d == 3 {
-        return try_above(x, m, c, mark, v, f);
-    }
-    if d == 4 {
-        return try_below(x, m, c, mark, v, f);
-    }
-    retreat(c, mark, f)
+    let pins = x.pins;
+    claim(pins, s, a, v, 1);
 }
 
 // The pins that cell c touches are marked, to be walked from, where they hold v; when the walk first comes to c.
-fn meet(p: &[u8], s: &mut [u8], c: Cell, v: u8, f: Frame)
-    requires { Shape (grid_of f) × On (grid_of f) c × (length p.now ≡ pin_places) × (length s.old ≡ pin_places) }
-    ensures { Met (grid_of f) p.now s.old s.new c.q v }
+fn meet(x: Wired, s: &mut [u8; PIN_PLACES], c: Cell, v: u8)
+    requires { On (grid_of x.frame) c }
+    ensures { Met (grid_of x.entry.frame) x.entry.pins.now s.old s.new c.q v }
 {
-    if c.d != 1 {
+    if c.tried != 0 {
         return;
     }
-    let i = c.i;
-    let j = c.j;
-    let l = c.l;
-    if is_horizontal(l, f.first) {
-        claim_if(i == 0, p, s, WEST_START + j, v, 1);
-        claim_if(i + 1 == column_count(f.n), p, s, EAST_START + j, v, 1);
-        return;
+    let Cell { i, j, l, .. } = c;
+    if is_horizontal(l, x.frame.first) {
+        meet_pin(x, s, c, WEST_START + j, v, i == 0);
+        meet_pin(x, s, c, EAST_START + j, v, i + 1 == column_count(x.frame.n));
+    } else {
+        meet_pin(x, s, c, SOUTH_START + i, v, j == 0);
+        meet_pin(x, s, c, i, v, j + 1 == track_count(x.frame.w));
     }
-    claim_if(j == 0, p, s, SOUTH_START + i, v, 1);
-    claim_if(j + 1 == track_count(f.w), p, s, i, v, 1);
 }
 
-// One step of the walk, on or back. (For our own crates.)
-pub fn advance(p: &[u8], s: &mut [u8], x: &[u8], m: &mut [u8], c: Cell, f: Frame) -> Cell
-    requires { Fits (grid_of f) (length p.now) (length s.old) (length x.now) (length m.old) × On (grid_of f) c ×
-        (at m.old c.q ≢ 0) }
-    ensures { Walked (grid_of f) p.now s.old s.new x.now m.old
+// One step of the walk, on or back; none where it is back at its beginning. (For our own crates.)
+pub fn advance(x: Wired, s: &mut [u8; PIN_PLACES], m: &mut [u8], c: Cell) -> Option<Cell>
+    requires { (length m.old ≡ length x.points.now) × On (grid_of x.frame) c × (at m.old c.q ≢ 0) }
+    ensures { Walked (grid_of x.entry.frame) x.entry.pins.now s.old s.new x.entry.points.now m.old
         m.new result }
 {
-    let q = c.q;
-    let v = x[q];
-    let mark = m[q];
-    meet(p, s, c, v, f);
-    onward(x, m, c, mark, v, f)
+    let v = x.points[c.q];
+    let mark = m[c.q];
+    meet(x, s, c, v);
+    onward(x, m, c, mark, v)
 }

@@ -1,5 +1,4 @@
 pub mod Spots
 pub mod Ageing
 pub mod Settling
-pub mod Fitting
 pub mod Places

@@ -7,11 +7,6 @@ use Rattle.check_link.specs.Marks.{State, Added, Swept}
 use Rattle.check_sweep.specs.Reached.{Reach, here, on, back, Aged, Grown, Settled}
 use Rattle.check_link.proofs.Sweeping.{kept}
 
--- sweeps over E took the marks from σ to σ', and the last of them made c
-pub record Going {A : Type 0} (v : A → ℕ) (σ σ' : State A) (E : A → A → Type 0) (c : ℕ) : Type 0 where
-  pub grown : Grown v σ σ' E
-  pub shut : c ≡ 0 → (a b : A) → E a b → v a ≡ v b → (σ'.mark a ≢ 0 → σ'.mark b ≢ 0) × (σ'.mark b ≢ 0 → σ'.mark a ≢ 0)
-
 module _ {A : Type 0} {v : A → ℕ} {E : A → A → Type 0} where
   pub grown_none : {σ : State A} → Grown v σ σ E
   grown_none = record { sound = λ a h. here h; keep = λ a h. h }
@@ -36,21 +31,20 @@ module _ {A : Type 0} {v : A → ℕ} {E : A → A → Type 0} where
           let r : Reach v σ.mark E n.from = here (λ (z : σ.mark n.from ≡ 0). omega (arith, n.old)) in
           ⊎_elim (λ e. back r e n.same) (λ e. on r e (sym n.same)) n.edge
 
-  pub going_start : {σ : State A} → Going v σ σ E 1
-  going_start = record { grown = grown_none; shut = λ z. absurd (omega arith) }
+  -- the marks age and a sweep goes over them
+  pub grown_more : {σ σ₁ σ₂ σ₃ : State A} {c : ℕ} → Grown v σ σ₁ E → ((a : A) → Aged (σ₁.mark a) (σ₂.mark a)) → Swept v σ₂ σ₃ E c → Grown v σ σ₃ E
+  grown_more g e s = grown_then g (grown_then (grown_aged e) (grown_swept s))
 
-  pub going_more : {σ σ₁ σ₂ σ₃ : State A} {c d : ℕ} → Going v σ σ₁ E c → ((a : A) → Aged (σ₁.mark a) (σ₂.mark a)) → Swept v σ₂ σ₃ E d → Going v σ σ₃ E d
-  going_more {σ₁ = σ₁} {σ₂} {σ₃} {d = d} g e s =
+  pub settled_now : {σ σ₁ σ₂ σ₃ : State A} {c : ℕ} → Grown v σ σ₁ E → ((a : A) → Aged (σ₁.mark a) (σ₂.mark a)) → Swept v σ₂ σ₃ E c → c ≡ 0
+      → Settled v σ σ₃ E
+  settled_now {σ₁ = σ₁} {σ₂} {σ₃} {c} g e s z =
       record {
-        grown = grown_then g.grown (grown_then (grown_aged e) (grown_swept s));
-        shut = λ z a b f q. (λ h. (s.full a b f).there q (reached z a h), λ h. (s.full a b f).back q (reached z b h));
+        grown = grown_more g e s;
+        shut = λ a b f q. (λ h. (s.full a b f).there q (reached a h), λ h. (s.full a b f).back q (reached b h));
       }
     where
-      reached : d ≡ 0 → (a : A) → σ₃.mark a ≢ 0 → σ₂.mark a ≡ 1
-      reached z a h = (e a).some (λ u. h (s.still z a ∙ (e a).none u))
-
-  pub going_end : {σ σ' : State A} {c : ℕ} → c ≡ 0 → Going v σ σ' E c → Settled v σ σ' E
-  going_end z g = record { grown = g.grown; shut = g.shut z }
+      reached : (a : A) → σ₃.mark a ≢ 0 → σ₂.mark a ≡ 1
+      reached a h = (e a).some (λ u. h (s.still z a ∙ (e a).none u))
 
   pub settled_after : {σ σ₁ σ₂ : State A} → Grown v σ σ₁ E → Settled v σ₁ σ₂ E → Settled v σ σ₂ E
   settled_after g s = record { grown = grown_then g s.grown; shut = s.shut }

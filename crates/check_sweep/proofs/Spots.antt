@@ -8,23 +8,33 @@ use lib.ListN.{length, set}
 use lib.Seq.{get_or-set_same}
 use Rattle.check_link.specs.Marks.{at, one, Shut, Added, Swept}
 use Rattle.check_link.proofs.Zeros.{zeros_set, elsewhere}
-use Rattle.check_link.proofs.Sweeping.{Marked}
+use Rattle.check_link.proofs.Sweeping.{Marked, only_first, only_second}
+use Rattle.check_link.specs.Edges.{Only}
 use Rattle.check_sweep.specs.Reached.{Spot, a_pin, a_point, val, two}
 use Rattle.check_sweep.specs.Pins.{Inner}
 
-pub marked_pin : (s m : List ℕ) (i : ℕ) → i < length s → at s i ≡ 0 → Marked (two s m) (two (set s i 2) m) (a_pin i)
+marked_pin : (s m : List ℕ) (i : ℕ) → i < length s → at s i ≡ 0 → Marked (two s m) (two (set s i 2) m) (a_pin i)
 marked_pin s m i h z = record { was = z; is = get_or-set_same s i 2 0 h; rest = rest; fewer = omega (arith, zeros_set s i 1 h z) }
   where
     rest : (c : Spot) → (c ≡ a_pin i) ⊎ (val (set s i 2) m c ≡ val s m c)
     rest (a_pin c) = ⊎_elim (λ e. inl (ap a_pin e)) inr (elsewhere s i 2 c)
     rest (a_point c) = inr refl
 
-pub marked_point : (s m : List ℕ) (i : ℕ) → i < length m → at m i ≡ 0 → Marked (two s m) (two s (set m i 2)) (a_point i)
+marked_point : (s m : List ℕ) (i : ℕ) → i < length m → at m i ≡ 0 → Marked (two s m) (two s (set m i 2)) (a_point i)
 marked_point s m i h z = record { was = z; is = get_or-set_same m i 2 0 h; rest = rest; fewer = omega (arith, zeros_set m i 1 h z) }
   where
     rest : (c : Spot) → (c ≡ a_point i) ⊎ (val s (set m i 2) c ≡ val s m c)
     rest (a_pin c) = inr refl
     rest (a_point c) = ⊎_elim (λ e. inl (ap a_point e)) inr (elsewhere m i 2 c)
+
+-- one edge between a pin and a point, of which the other end was reached before
+pub pin_marked : (p x s m : List ℕ) (a b : ℕ) → at p a ≡ at x b → at s a ≡ 0 → at m b ≡ 1 → a < length s
+    → Swept (val p x) (two s m) (two (set s a 2) m) (Only (a_pin a) (a_point b)) 1
+pin_marked p x s m a b e z o h = only_first (a_pin a) (a_point b) e o (marked_pin s m a h z)
+
+pub point_marked : (p x s m : List ℕ) (a b : ℕ) → at p a ≡ at x b → at s a ≡ 1 → at m b ≡ 0 → b < length m
+    → Swept (val p x) (two s m) (two s (set m b 2)) (Only (a_pin a) (a_point b)) 1
+point_marked p x s m a b e o z h = only_second (a_pin a) (a_point b) e o (marked_point s m b h z)
 
 -- a sweep of the points alone, seen with the pins
 pub inner : (p x s m m' : List ℕ) {E : ℕ → ℕ → Type 0} {c : ℕ} → Swept (at x) (one m) (one m') E c → Swept (val p x) (two s m) (two s m') (Inner E) c

@@ -5,17 +5,15 @@
 --                      where the places of these sides start in the pin list, in which those of north come first, and its length
 --   pin_at s a         the place of pin a of side s in the pin list
 --   PinRun first start gap count  from each of count pins from first on, to the points from start on in steps of gap
---   Ends, PinJoins     from the pins that a layer at q touches, and from all pins
+--   Ends, EndsOf       from the pins that a layer at q, or layer l + 1, touches
+--   PinJoins g         from all pins
 --   Inner E            the edges E between points, as edges between spots
 --   Edges g            all edges
---   Fits g p s x m     the lengths of the pin list, its marks, the points and their marks
---   SideFits, EndsFit  what the inner loops ask of these lengths
-use Rattle.std.specs.Prelude.{ℕ, ◌+◌, ◌*◌, ◌-◌, ◌<◌, ◌≤◌, Bool, true, false, ◌≡◌, ◌⊎◌}
-use Rattle.counting.specs.Counting.{In}
+use Rattle.std.specs.Prelude.{ℕ, ◌+◌, ◌*◌, ◌-◌, Bool, true, false, ◌⊎◌}
 use Rattle.terms.specs.Kinds.{Side, north, south, west, east}
 use Rattle.terms.specs.Limits.{longest_side, widest_grid}
 use Rattle.grid.specs.Grid.{Grid}
-use Rattle.check_link.specs.Edges.{horizontal, Only, Below, Points, PointsFit}
+use Rattle.check_link.specs.Edges.{horizontal, Only, Below, Points}
 use Rattle.check_sweep.specs.Reached.{Spot, a_pin, a_point}
 
 abbrev pub south_start : ℕ
@@ -57,24 +55,3 @@ Inner E (a_pin a) b = ⊥
 
 abbrev pub Edges : Grid → Spot → Spot → Type 0
 Edges g a b = Inner (Points g) a b ⊎ PinJoins g a b
-
-pub record SideFits (p s x m first start gap count : ℕ) : Type 0 where
-  pub pins : p ≡ pin_places
-  pub pin_marks : s ≡ pin_places
-  pub places : first + count ≤ pin_places
-  pub step : gap ≤ x
-  pub last : start + count * gap < x + gap
-  pub marks : x ≤ m
-
-pub record EndsFit (p s x m q n w : ℕ) : Type 0 where
-  pub long : In n longest_side
-  pub wide : In w widest_grid
-  pub pins : p ≡ pin_places
-  pub pin_marks : s ≡ pin_places
-  pub own : q + n * w ≤ x
-  pub marks : x ≤ m
-
-pub record Fits (g : Grid) (p s x m : ℕ) : Type 0 where
-  pub pins : p ≡ pin_places
-  pub pin_marks : s ≡ pin_places
-  pub points : PointsFit g x m

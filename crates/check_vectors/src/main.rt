@@ -2,7 +2,8 @@
 // of one, the lengths of scratch and wiring of three, and the wiring.
 #![tactic(auto)]
 
-ghost use Rattle.std.specs.Prelude.{◌≤◌, length, IfOk};
+ghost use Rattle.std.specs.Prelude.{length};
+ghost use Rattle.std.specs.Iterator.{at_most};
 
 use grid::{Layer, Track};
 use records::{pair, triple};
@@ -15,65 +16,63 @@ const INPUT: usize = 1500000;
 
 const SCRATCH: usize = 100000;
 
-fn show(
-    rt: &impl Print,
-    ticket: &[u8],
+// What a record asks for.
+#[derive(Clone, Copy)]
+struct Case<'a> {
+    ticket: &'a [u8],
     w: Track,
     k: Layer,
     first: bool,
-    wiring: &[u8],
-    scratch: &mut [u8],
-) -> io::Result<()> {
-    let a = checker::check(ticket, w, k, first, wiring, scratch);
-    records::field(rt, terms::wide(a.number))?;
-    records::last_field(rt, a.place)
+    scratch: usize,
+    wiring: &'a [u8],
 }
 
-// Shows the record that starts at `at`, and answers where it ends: at `at` itself where it is not whole.
-fn one(rt: &impl Print, s: &[u8], at: usize, room: &mut [u8]) -> io::Result<usize>
-    requires { at ≤ length s.now }
-    ensures { IfOk result (λ next. next ≤ length s.now) }
-{
-    let r = records::record_at(s, at, FIELDS);
-    let from = r.from;
-    let end = r.end;
-    if end <= at {
-        return Ok(at);
-    }
-    let scratch = triple(s, end + 5);
-    let size = triple(s, end + 8);
-    let start = end + FIELDS;
-    if s.len() - start < size {
-        return Ok(at);
-    }
-    if room.len() < scratch {
-        return Ok(at);
-    }
-    let w = Track(pair(s, end));
-    let k = Layer(pair(s, end + 2));
-    let first = end + 4;
-    let next = start + size;
-    show(
-        rt,
-        &s[from..end],
-        w,
-        k,
-        s[first] != 0,
-        &s[start..next],
-        &mut room[..scratch],
-    )?;
-    Ok(next)
+// The records of an input, up to the first that is not whole.
+#[derive(Drop)]
+struct Cases<'a> {
+    rest: &'a [u8],
 }
 
-fn all(rt: &impl Print, s: &[u8], room: &mut [u8]) -> io::Result<()> {
-    let mut at = 0;
-    loop {
-        let next = one(rt, s, at, room)?;
-        if next <= at {
-            return Ok(());
+impl<'a> Iterator for Cases<'a> {
+    type Item = Case<'a>;
+
+    ghost remaining = { λ s. at_most (length s.rest.now) };
+
+    fn next(&mut self) -> Option<Case<'a>> {
+        let input = self.rest;
+        let cut = records::record_at(input, 0, FIELDS);
+        if cut.end == 0 {
+            return None;
         }
-        at = next;
+        let fields = &input[cut.end..];
+        let size = triple(fields, 8);
+        let after = &fields[FIELDS..];
+        if after.len() < size {
+            return None;
+        }
+        self.rest = &after[size..];
+        Some(Case {
+            ticket: &input[cut.from..cut.end],
+            w: Track(pair(fields, 0)),
+            k: Layer(pair(fields, 2)),
+            first: fields[4] != 0,
+            scratch: triple(fields, 5),
+            wiring: &after[..size],
+        })
     }
+}
+
+fn show(rt: &impl Print, case: Case, scratch: &mut [u8]) -> io::Result<()> {
+    let a = checker::check(
+        case.ticket,
+        case.w,
+        case.k,
+        case.first,
+        case.wiring,
+        scratch,
+    );
+    records::field(rt, usize::from(a.number))?;
+    records::last_field(rt, a.place)
 }
 
 fn input() -> [u8; INPUT] {
@@ -84,5 +83,12 @@ fn main(rt: HostRuntime) -> io::Result<()> {
     let mut buffer = input();
     let mut room = [0u8; SCRATCH];
     let n = records::read_full(&mut rt.stdin(), &mut buffer)?;
-    all(&rt, &buffer[..n], &mut room)
+    let cases = Cases { rest: &buffer[..n] };
+    for case in cases {
+        if room.len() < case.scratch {
+            return Ok(());
+        }
+        show(&rt, case, &mut room[..case.scratch])?;
+    }
+    Ok(())
 }

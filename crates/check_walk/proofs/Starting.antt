@@ -1,11 +1,10 @@
 -- Where a walk starts: at a marked pin, in the cell that it touches, which is reached because it is joined to the pin.
-use Prim.Native.Nat.{ℕ, ◌+◌, ◌*◌, ◌≤◌, ◌<◌}
+use Prim.Native.Nat.{ℕ, ◌+◌, ◌*◌, ◌<◌}
 use mathlib.Core.Path.{◌≡◌, refl, sym, ap, ◌∙◌}
 use mathlib.Core.Logic.{◌⊎◌, inl, inr, ◌≢◌, ⊎_elim}
 use mathlib.Core.Bool.{Bool}
 use mathlib.Core.List.{List}
 use native.Mathlib.Omega.{arith}
-use native.Mathlib.Nat.{zero-mul}
 use lib.ListN.{length, set}
 use lib.Seq.{get_or-set_same}
 use Rattle.grid.specs.Grid.{Grid}
@@ -20,15 +19,11 @@ use Rattle.check_step.proofs.Steps.{tip_edge}
 use Rattle.check_step.proofs.Growing.{grown_mark, claimed_point}
 use Rattle.check_walk.specs.Walk.{Pinned}
 
--- a point of the first layer
-pub on_first : {g : Grid} {i j n d : ℕ} → n ≡ g.n → i < g.n → j < g.w → 1 ≤ g.k → On g (record { q = j * n + i; i = i; j = j; l = 0; d = d })
-on_first {g} {i} {j} e a b c =
-    record {
-      column = a;
-      track = b;
-      layer = c;
-      is = omega (arith, ap (λ (u : ℕ). j * u) e, zero-mul (g.n * g.w));
-    }
+-- a point of layer l + 1
+pub on_layer : {g : Grid} {i j l each n tried : ℕ} → each ≡ g.n * g.w → n ≡ g.n → i < g.n → j < g.w → l < g.k
+    → On g (record { q = l * each + (j * n + i); i = i; j = j; l = l; tried = tried })
+on_layer {g} {i} {j} {l} e f a b c =
+    record { column = a; track = b; layer = c; is = omega (arith, ap (λ (u : ℕ). l * u) e, ap (λ (u : ℕ). j * u) f) }
 
 -- another mark where there was one
 pub remarked : (p s x m : List ℕ) {E : Spot → Spot → Type 0} {a d : ℕ} → a < length s → at s a ≢ 0 → d ≢ 0

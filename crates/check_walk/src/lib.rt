@@ -3,37 +3,35 @@
 // Of a walk only this is promised: what it marks is reached. The sweeps that follow find whatever it should miss.
 #![tactic(auto)]
 
-ghost use Rattle.std.specs.Prelude.{◌≡◌, true, ◌≤◌, ◌<◌, length};
+ghost use Rattle.std.specs.Prelude.{◌≡◌, ◌≢◌, ◌<◌, length};
 ghost use Rattle.grid.specs.Grid.{grid_of};
-ghost use Rattle.check_link.specs.Edges.{horizontal, Shape};
+ghost use Rattle.check_link.specs.Marks.{at};
 ghost use Rattle.check_sweep.specs.Reached.{val, two, Grown};
-ghost use Rattle.check_sweep.specs.Pins.{Edges, Fits, pin_places};
+ghost use Rattle.check_sweep.specs.Pins.{Edges, pin_places};
 ghost use Rattle.check_step.specs.Step.{On, Tip};
 ghost use Rattle.check_walk.specs.Walk.{Pinned};
 
 use check_link::is_horizontal;
-use check_step::{Cell, advance, claim};
-use check_sweep::{EAST_START, PIN_PLACES, SOUTH_START, WEST_START};
-use grid::{Frame, area, column_count, layer_count, track_count};
+use check_link::wired::{PIN_PLACES, Wired};
+use check_step::{Cell, FROM_PIN, advance, claim};
+use check_sweep::{EAST_START, SOUTH_START, WEST_START};
+use grid::{area, column_count, layer_count, track_count};
 
 // Steps from cell c until the walk is back there, at most so many.
-fn walk(p: &[u8], s: &mut [u8], x: &[u8], m: &mut [u8], c: Cell, f: Frame, steps: usize)
-    requires { Fits (grid_of f) (length p.now) (length s.old) (length x.now) (length m.old) × On (grid_of f) c }
-    ensures { Grown (val p.now x.now) (two s.old m.old)
-        (two s.new m.new) (Edges (grid_of f)) }
+fn walk(x: Wired, s: &mut [u8; PIN_PLACES], m: &mut [u8], c: Cell, steps: usize)
+    requires { (length m.old ≡ length x.points.now) × On (grid_of x.frame) c }
+    ensures { Grown (val x.entry.pins.now x.entry.points.now) (two s.old m.old)
+        (two s.new m.new) (Edges (grid_of x.entry.frame)) }
 {
     let mut here = c;
-    let mut left = steps;
-    while 0 < left {
-        left -= 1;
-        let q = here.q;
-        if m[q] == 0 {
+    'steps: for _ in 0..steps {
+        if m[here.q] == 0 {
             return;
         }
-        if here.d == 6 {
+        let Some(next) = advance(x, s, m, here) else {
             return;
-        }
-        here = advance(p, s, x, m, here, f);
+        };
+        here = next;
     }
 }
 
@@ -45,14 +43,14 @@ struct Touch {
     flat: bool,
 }
 
-fn touch_of(a: usize, f: Frame) -> Touch
-    requires { Shape (grid_of f) × (a < pin_places) }
-    ensures { Tip (grid_of f) a result.i result.j result.flat }
+fn touch_of(x: Wired, a: usize) -> Touch
+    requires { a < pin_places }
+    ensures { Tip (grid_of x.entry.frame) a result.i result.j result.flat }
 {
     if a < SOUTH_START {
         return Touch {
             i: a,
-            j: track_count(f.w) - 1,
+            j: track_count(x.frame.w) - 1,
             flat: false,
         };
     }
@@ -71,133 +69,107 @@ fn touch_of(a: usize, f: Frame) -> Touch
         };
     }
     Touch {
-        i: column_count(f.n) - 1,
+        i: column_count(x.frame.n) - 1,
         j: a - EAST_START,
         flat: true,
     }
 }
 
-// Whether layer l + 1 has the direction asked for.
-fn is_of(l: usize, first: bool, flat: bool) -> bool
-    ensures { (result ≡ true → horizontal first l ≡ flat) × (horizontal first l ≡ flat → result ≡ true) }
+// A walk from cell c, which the marked pin a touches on layers of one direction, where c has none of a walk's marks yet.
+fn begin(x: Wired, s: &mut [u8; PIN_PLACES], m: &mut [u8], a: usize, c: Cell, flat: bool)
+    requires { (length m.old ≡ length x.points.now) × Pinned (grid_of x.frame) s.old a c flat }
+    ensures { Grown (val x.entry.pins.now x.entry.points.now) (two s.old m.old)
+        (two s.new m.new) (Edges (grid_of x.entry.frame)) }
 {
-    if is_horizontal(l, first) {
-        return flat;
+    let is_flat = is_horizontal(c.l, x.frame.first);
+    if is_flat != flat {
+        return;
     }
-    if flat {
+    let v = x.pins[a];
+    if !claim(x.points, m, c.q, v, FROM_PIN) {
+        return;
+    }
+    walk(x, s, m, c, 2 * x.points.len());
+}
+
+// Walks from all points that the marked pin a touches, in column i and track j.
+fn walk_from(
+    x: Wired,
+    s: &mut [u8; PIN_PLACES],
+    m: &mut [u8],
+    a: usize,
+    i: usize,
+    j: usize,
+    flat: bool,
+)
+    requires marks { length m.old ≡ length x.points.now }
+    requires place { (a < pin_places) × (at s.old a ≢ 0) }
+    requires point { (i < x.frame.n.0) × (j < x.frame.w.0) }
+    requires tip { Tip (grid_of x.frame) a i j flat }
+    ensures { Grown (val x.entry.pins.now x.entry.points.now) (two s.old m.old)
+        (two s.new m.new) (Edges (grid_of x.entry.frame)) }
+{
+    let each = area(x.frame.n, x.frame.w);
+    let n = column_count(x.frame.n);
+    for l in 0..layer_count(x.frame.k) {
+        let q = l * each + (j * n + i);
+        begin(
+            x,
+            s,
+            m,
+            a,
+            Cell {
+                q,
+                i,
+                j,
+                l,
+                tried: 0,
+            },
+            flat,
+        );
+    }
+}
+
+// Where pin a waits: walks from its points. Whether it waited.
+fn take_up(x: Wired, s: &mut [u8; PIN_PLACES], m: &mut [u8], a: usize) -> bool
+    requires { (length m.old ≡ length x.points.now) × (a < pin_places) }
+    ensures { Grown (val x.entry.pins.now x.entry.points.now) (two s.old m.old)
+        (two s.new m.new) (Edges (grid_of x.entry.frame)) }
+{
+    if s[a] != 1 {
         return false;
     }
+    s[a] = 2;
+    let Touch { i, j, flat } = touch_of(x, a);
+    if column_count(x.frame.n) <= i || track_count(x.frame.w) <= j {
+        return true;
+    }
+    walk_from(x, s, m, a, i, j, flat);
     true
 }
 
-// A walk from cell c, which the marked pin a touches on layers of one direction, where c has none of a walk's marks yet.
-fn begin(p: &[u8], s: &mut [u8], x: &[u8], m: &mut [u8], a: usize, c: Cell, flat: bool, f: Frame)
-    requires { Fits (grid_of f) (length p.now) (length s.old) (length x.now) (length m.old) × Pinned (grid_of f)
-        s.old a c flat }
-    ensures { Grown (val p.now x.now) (two s.old m.old)
-        (two s.new m.new) (Edges (grid_of f)) }
+// Takes up each waiting pin once. Whether one waited.
+fn take_up_all(x: Wired, s: &mut [u8; PIN_PLACES], m: &mut [u8]) -> bool
+    requires { length m.old ≡ length x.points.now }
+    ensures { Grown (val x.entry.pins.now x.entry.points.now) (two s.old m.old)
+        (two s.new m.new) (Edges (grid_of x.entry.frame)) }
 {
-    let l = c.l;
-    let q = c.q;
-    let first = f.first;
-    if is_of(l, first, flat) {
-        let v = p[a];
-        if claim(x, m, q, v, 5) {
-            let steps = x.len() + x.len();
-            return walk(p, s, x, m, c, f, steps);
-        }
-    }
-}
-
-// Walks from all points that the marked pin a touches: c is the one on the first layer.
-fn walk_from(
-    p: &[u8],
-    s: &mut [u8],
-    x: &[u8],
-    m: &mut [u8],
-    a: usize,
-    c: Cell,
-    flat: bool,
-    f: Frame,
-)
-    requires { Fits (grid_of f) (length p.now) (length s.old) (length x.now) (length m.old) × Pinned (grid_of f)
-        s.old a c flat × (c.l ≡ 0) }
-    ensures { Grown (val p.now x.now) (two s.old m.old)
-        (two s.new m.new) (Edges (grid_of f)) }
-{
-    let i = c.i;
-    let j = c.j;
-    let each = area(f.n, f.w);
-    let mut q = c.q;
-    for l in 0..layer_count(f.k) {
-        begin(p, s, x, m, a, Cell { q, i, j, l, d: 1 }, flat, f);
-        q += each;
-    }
-}
-
-// Where pin a waits: walks from its points. 1 for a pin that waited, else 0.
-fn take_up(p: &[u8], s: &mut [u8], x: &[u8], m: &mut [u8], a: usize, f: Frame) -> usize
-    requires { Fits (grid_of f) (length p.now) (length s.old) (length x.now) (length m.old) × (a < pin_places) }
-    ensures { Grown (val p.now x.now) (two s.old m.old)
-        (two s.new m.new) (Edges (grid_of f)) × (result ≤ 1) }
-{
-    if s[a] != 1 {
-        return 0;
-    }
-    s[a] = 2;
-    let t = touch_of(a, f);
-    let i = t.i;
-    let j = t.j;
-    let n = column_count(f.n);
-    if n <= i {
-        return 1;
-    }
-    if track_count(f.w) <= j {
-        return 1;
-    }
-    walk_from(
-        p,
-        s,
-        x,
-        m,
-        a,
-        Cell {
-            q: j * n + i,
-            i,
-            j,
-            l: 0,
-            d: 1,
-        },
-        t.flat,
-        f,
-    );
-    1
-}
-
-// Takes up each waiting pin once. How many waited.
-fn take_up_all(p: &[u8], s: &mut [u8], x: &[u8], m: &mut [u8], f: Frame) -> usize
-    requires { Fits (grid_of f) (length p.now) (length s.old) (length x.now) (length m.old) }
-    ensures { Grown (val p.now x.now) (two s.old m.old)
-        (two s.new m.new) (Edges (grid_of f)) }
-{
-    let mut waited: usize = 0;
+    let mut waited = false;
     for a in 0..PIN_PLACES {
-        waited += take_up(p, s, x, m, a, f);
+        waited |= take_up(x, s, m, a);
     }
     waited
 }
 
 // Walks from all marked pins, and from those that the walks reach. A pin waits once, so as many rounds as places are enough. (For our own
 // crates.)
-pub fn spread(p: &[u8], s: &mut [u8], x: &[u8], m: &mut [u8], f: Frame)
-    requires { Fits (grid_of f) (length p.now) (length s.old) (length x.now) (length m.old) }
-    ensures { Grown (val p.now x.now) (two s.old m.old)
-        (two s.new m.new) (Edges (grid_of f)) }
+pub fn spread(x: Wired, s: &mut [u8; PIN_PLACES], m: &mut [u8])
+    requires { length m.old ≡ length x.points.now }
+    ensures { Grown (val x.entry.pins.now x.entry.points.now) (two s.old m.old)
+        (two s.new m.new) (Edges (grid_of x.entry.frame)) }
 {
-    let mut rounds: usize = PIN_PLACES;
-    while 0 < rounds {
-        rounds -= 1;
-        if take_up_all(p, s, x, m, f) == 0 {
+    'rounds: for _ in 0..PIN_PLACES {
+        if !take_up_all(x, s, m) {
             return;
         }
     }

@@ -20,7 +20,7 @@ use Rattle.problem.specs.Problem.{pins_in, Good}
 use Rattle.ticket.specs.Read.{ticket_of}
 use Rattle.ticket.proofs.Good.{reading_good}
 use Rattle.ticket.specs.declared.Reading.{Reading}
-use Rattle.check_sweep.specs.Pins.{pin_places, Fits}
+use Rattle.check_link.specs.Edges.{Shape}
 use Rattle.checker.specs.Check.{width_fits, check_refusal, check_grid, Checked}
 use Rattle.check_scan.specs.Scan.{PinList}
 use Rattle.checker.specs.Marking.{Judges}
@@ -113,13 +113,11 @@ module _ (s : List ℕ) (t : Reading) (e : t ≡ ticket_of s) (w k : ℕ) (first
     wide : In w widest_grid
     wide = small (known t.problem.kind good.kind) all_passed.width
 
-    pub fits : {m : ℕ} → m ≡ length x → Fits (check_grid t.problem w k first) pin_places pin_places (length x) m
-    fits h =
-        record {
-          pins = refl;
-          pin_marks = refl;
-          points = record { shape = record { long = good.columns; wide = wide; deep = all_passed.layers }; size = all_passed.size; marks = h };
-        }
+    pub shape : Shape (check_grid t.problem w k first)
+    shape = record { long = good.columns; wide = wide; deep = all_passed.layers }
+
+    pub size : length x ≡ t.problem.n.0 * w * k
+    size = all_passed.size
 
     pub accepted : {y' list : List ℕ} {a : Refusal} → length y' ≡ length y → PinList t.problem.pins list
         → Judges (check_grid t.problem w k first) list x a → Checked (ticket_of s) w k first x y y' a

@@ -1,20 +1,21 @@
 // Check: whether a wiring, whoever drew it, is a legal wiring of a ticket.
 #![tactic(auto)]
 
-ghost use Rattle.std.specs.Prelude.{◌≡◌, ◌&&◌, length};
+ghost use Rattle.std.specs.Prelude.{◌≡◌, ◌≢◌, ◌&&◌, ◌*◌, length, IfSome};
 ghost use Rattle.terms.specs.Limits.{most_layers, within};
 ghost use Rattle.problem.specs.Problem.{Good};
 ghost use Rattle.ticket.specs.Read.{ticket_of};
 ghost use Rattle.grid.specs.Grid.{grid_of};
-ghost use Rattle.check_sweep.specs.Pins.{pin_places, Fits};
+ghost use Rattle.check_scan.specs.Scan.{net_of};
+ghost use Rattle.check_link.specs.Edges.{Shape};
 ghost use Rattle.checker.specs.Check.{width_fits, check_refusal, Checked};
 ghost use Rattle.checker.specs.Marking.{Firsts, Torn, Judges};
 
+use check_link::wired::{PIN_PLACES, Wired};
 use check_scan::{clear, first_unknown, lowest_of, open_nets, pin_list};
-use check_sweep::PIN_PLACES;
-use grid::{Frame, Layer, Track, column_count, layer_count, points, track_count};
+use grid::{Frame, Layer, Track, layer_count, points, track_count};
 use problem::Problem;
-use terms::{BOX, MOST_LAYERS, Refusal, is_within, refuse, wide, widest};
+use terms::{BOX, MOST_LAYERS, Refusal, is_within, refuse, widest};
 use ticket::Reading;
 
 // ---- before the wiring is looked at
@@ -25,7 +26,7 @@ fn has_width(q: Problem, w: Track) -> bool
     let tracks = track_count(w);
     if is_within(tracks, widest(q.kind)) {
         if q.kind == BOX {
-            return tracks == wide(q.byte2);
+            return tracks == usize::from(q.byte2);
         }
         return true;
     }
@@ -35,10 +36,7 @@ fn has_width(q: Problem, w: Track) -> bool
 fn has_counts(q: Problem, w: Track, k: Layer) -> bool
     ensures { result ≡ (width_fits q w.0 && within k.0 most_layers) }
 {
-    if has_width(q, w) {
-        return is_within(layer_count(k), MOST_LAYERS);
-    }
-    false
+    has_width(q, w) && is_within(layer_count(k), MOST_LAYERS)
 }
 
 // Refusals 11 to 13, by the counts given and the lengths of wiring and scratch; 0 and 0 where there is none.
@@ -66,46 +64,33 @@ fn early_refusal(t: Reading, w: Track, k: Layer, wiring: usize, scratch: usize) 
 
 // ---- the call
 
-// The smallest net that is not in one piece, or 0, where s marks each net's first pin. The walks do the work; the sweeps make sure.
-fn torn(p: &[u8], s: &mut [u8], x: &[u8], m: &mut [u8], f: Frame) -> u8
-    requires { Fits (grid_of f) (length p.now) (length s.old) (length x.now) (length m.old) × Firsts p.now s.old }
-    ensures { Torn (grid_of f) p.now x.now result }
+// The smallest net that is not in one piece, where s marks each net's first pin. The walks do the work; the sweeps make sure.
+fn torn(x: Wired, s: &mut [u8; PIN_PLACES], m: &mut [u8]) -> Option<u8>
+    requires { (length m.old ≡ length x.points.now) × Firsts x.pins.now s.old }
+    ensures torn { Torn (grid_of x.entry.frame) x.entry.pins.now x.entry.points.now (net_of result) }
+    ensures net { IfSome result (λ m. m ≢ 0) }
 {
     clear(m);
-    check_walk::spread(p, s, x, m, f);
-    check_sweep::settle(p, s, x, m, f);
-    lowest_of(p, s, x, m)
+    check_walk::spread(x, s, m);
+    check_sweep::settle(x, s, m);
+    let pins = x.pins;
+    lowest_of(pins, s, x.points, m)
 }
 
-// What Check finds of a wiring x of the pins in the list p; s and m take marks.
-fn judge(p: &[u8], s: &mut [u8], x: &[u8], m: &mut [u8], f: Frame) -> Refusal
-    requires { Fits (grid_of f) (length p.now) (length s.old) (length x.now) (length m.old) }
-    ensures { Judges (grid_of f) p.now x.now result }
+// What Check finds of a wiring; m takes marks.
+fn judge(x: Wired, m: &mut [u8]) -> Refusal
+    requires { length m.old ≡ length x.points.now }
+    ensures { Judges (grid_of x.entry.frame) x.entry.pins.now x.entry.points.now result }
 {
-    let known = open_nets(p, s);
-    let q = first_unknown(
-        x,
-        &known,
-        column_count(f.n),
-        track_count(f.w),
-        layer_count(f.k),
-    );
-    if q < x.len() {
-        return refuse(14, q);
+    let mut s = [0; PIN_PLACES];
+    let known = open_nets(x.pins, &mut s);
+    match first_unknown(x.points, &known, x.frame) {
+        Some(q) => refuse(14, q),
+        None => match torn(x, &mut s, m) {
+            Some(net) => refuse(15, usize::from(net)),
+            None => refuse(0, 0),
+        },
     }
-    let net = torn(p, s, x, m, f);
-    if net == 0 {
-        return refuse(0, 0);
-    }
-    refuse(15, wide(net))
-}
-
-fn judge_list(list: [u8; PIN_PLACES], x: &[u8], m: &mut [u8], f: Frame) -> Refusal
-    requires { Fits (grid_of f) pin_places pin_places (length x.now) (length m.old) }
-    ensures { Judges (grid_of f) list x.now result }
-{
-    let mut marks = [0u8; PIN_PLACES];
-    judge(&list, &mut marks, x, m, f)
 }
 
 // Public call Check.
@@ -125,9 +110,14 @@ pub fn check(
     if refused.number != 0 {
         return refused;
     }
-    let pins = t.problem.pins;
-    let list = pin_list(pins);
+    let list = pin_list(t.problem.pins);
     let size = wiring.len();
     let n = t.problem.n;
-    judge_list(list, wiring, &mut scratch[..size], Frame { n, w, k, first })
+    let frame = Frame { n, w, k, first };
+    let x = Wired {
+        pins: &list,
+        points: wiring,
+        frame,
+    };
+    judge(x, &mut scratch[..size])
 }

@@ -2,7 +2,7 @@
 use Prim.Native.Nat.{ℕ, ◌+◌, ◌≤◌}
 use mathlib.Core.Path.{◌≡◌, refl, sym, ap, ◌∙◌}
 use mathlib.Core.Logic.{◌≢◌, by_cases}
-use mathlib.Core.Bool.{Bool, true, false, cond, ◌||◌, or-false}
+use mathlib.Core.Bool.{Bool, true, false, not, ◌||◌, or-false}
 use mathlib.Core.List.{List}
 use native.Mathlib.Decide.{ℕ_discrete}
 use native.Mathlib.Numerals.{add-one}
@@ -18,10 +18,6 @@ use Rattle.grid.specs.Legal.{entry}
 use Rattle.nets.specs.Tables.{pin_count_to, holds_at, NetTable}
 use Rattle.nets.proofs.Tabling.{Table, empty, table_none, table_more}
 use Rattle.figures.specs.Crossings.{at}
-
-pub none_or_one : (b : Bool) {z : ℕ} → z ≡ cond b 0 1 → z ≤ 1
-none_or_one true e = omega (arith, e)
-none_or_one false e = omega (arith, e)
 
 bit_or : (a b : Bool) → bit (a || b) ≤ bit a + bit b
 bit_or true b = omega arith
@@ -55,7 +51,7 @@ module _ (xs ys : List ℕ) where
     pub entered_le : get_or (entered list v) u 0 ≤ c + 1
     entered_le = omega (arith, one.is u lu, count_le (holds_at (entry xs) (entry ys) u) c, bit_le (eqb v u))
 
-    pub held_more : {z : ℕ} → z ≡ cond (eqb v u) 0 1 → Table (held (c + 1)) (set (entered list v) u (get_or (entered list v) u 0 + z))
+    pub held_more : {z : ℕ} → z ≡ bit (not (eqb v u)) → Table (held (c + 1)) (set (entered list v) u (get_or (entered list v) u 0 + z))
     held_more {z} e = table_more _ _ (entered list v) u _ lu other here one
       where
         other : (m : ℕ) → m ≢ u → held (c + 1) m ≡ held c m + bit (eqb v m)

@@ -1,19 +1,19 @@
 -- What the first and the last column need, from the tables; the others need what they must pass. All of it for columns and for tracks at
 -- once: `along` is the place along the grid, x the near side and y the far one.
-use Prim.Native.Nat.{ℕ, ◌+◌, ◌≤◌, ◌<◌, max}
+use Prim.Native.Nat.{ℕ, ◌+◌, ◌-◌, ◌≤◌, ◌<◌, max}
 use mathlib.Core.Path.{◌≡◌, refl, sym, ap, ap₂, ◌∙◌, subst}
 use mathlib.Core.Logic.{◌≢◌, by_cases}
-use mathlib.Core.Bool.{Bool, true, false, cond, ◌&&◌, ◌||◌, or-true, or-false, and-eq-true_iff}
+use mathlib.Core.Bool.{Bool, true, false, ◌&&◌, ◌||◌, or-true, or-false, and-eq-true_iff}
 use mathlib.Core.List.{List}
 use native.Mathlib.Decide.{ℕ_discrete}
 use native.Mathlib.Omega.{arith}
 use lib.Dec.{eqb}
 use borrow.Author.Tests.{eq-eqb, ne_eqb}
 use Rattle.counting.specs.Counting.{In, bit, sum, count, most}
-use Rattle.counting.proofs.Sums.{bit_one, bit_le, sum_le, sum_same, sum_add, sum_zero, sum_part}
-use Rattle.counting.proofs.Counts.{some_in, count_same, most_outer}
+use Rattle.counting.proofs.Sums.{bit_one, bit_le, sum_none, sum_more, sum_grows, sum_le, sum_same, sum_add, sum_zero, sum_part}
+use Rattle.counting.proofs.Counts.{some_in, count_le, count_same, most_outer}
 use Rattle.terms.specs.Kinds.{Side, north, south, west, east}
-use Rattle.terms.specs.Limits.{largest_net, table_sum}
+use Rattle.terms.specs.Limits.{largest_net, net_entries, table_sum}
 use Rattle.grid.specs.Grid.{Grid, Node, upright, places, column_of, track_of}
 use Rattle.grid.specs.Legal.{Pins, entry, pins_of, nets}
 use Rattle.density.specs.Density.{passes_at, has_pin_on, sides_of, all_on, box_passes_at, box_across, up}
@@ -22,20 +22,10 @@ use Rattle.nets.specs.Spans.{Reach}
 use Rattle.nets.specs.Tables.{pin_count_to, holds_at, low_of, high_of, NetTable}
 use Rattle.nets.proofs.Reach.{reach_columns, reach_tracks}
 use Rattle.figures.specs.Crossings.{at}
-use Rattle.figures.proofs.Entries.{one_if, one_most}
 use Rattle.figures.proofs.Passes.{passes_reach}
-use Rattle.edge_floor.specs.Needs.{over, is_other, need_from, other_from, EndsOf, MostNeed}
+use Rattle.edge_floor.specs.Needs.{over, need_from, other_from, EndsOf, MostNeed}
 
 -- ---- one net
-
--- whether a column must pass it, as the code has it
-pub other_is : (first last near far beside past c : ℕ) {low high i : ℕ} {o t : Bool} → low ≡ low_of first near far past
-    → high ≡ high_of last far past → o ≡ over low high c → t ≡ (eqb beside 0 && o) → i ≡ cond t 1 0
-    → (i ≡ bit (is_other first last near far beside past c)) × (i ≤ 1)
-other_is first last near far beside past c {t = t} el eh eo et ei = (
-  ei ∙ one_if t ∙ ap bit (et ∙ ap (λ (o : Bool). eqb beside 0 && o) (eo ∙ ap₂ (λ (a b : ℕ). over a b c) el eh)),
-  one_most t ei,
-)
 
 -- its pins, or 1 where it has none and the column must pass it
 apart : (o : Bool) (e : ℕ) → e + bit (eqb e 0 && o) ≡ max (bit o) e
@@ -47,6 +37,36 @@ pub two_sums : (first last near far beside : List ℕ) (past c : ℕ)
 two_sums first last near far beside past c =
     sym (sum_add (at beside) (λ m. bit (other_from first last near far beside past c m)) largest_net)
     ∙ sum_same _ (need_from first last near far beside past c) largest_net (λ m i. apart _ (at beside m))
+
+-- the two sums over the nets below m
+pub record NeedTo (first last near far beside : List ℕ) (past c m pins others : ℕ) : Type 0 where
+  pub beside_it : pins ≡ sum (at beside) (m - 1)
+  pub passed : others ≡ count (other_from first last near far beside past c) (m - 1)
+
+module _ {first last near far beside : List ℕ} {past c m pins others : ℕ} (r : NeedTo first last near far beside past c m pins others) where
+  pub few_passed : others ≤ m - 1
+  few_passed = omega (arith, r.passed, count_le (other_from first last near far beside past c) (m - 1))
+
+  module _ (one : 1 ≤ m) where
+    one_more : (f : ℕ → ℕ) → sum f m ≡ sum f (m - 1) + f m
+    one_more f = let here : m - 1 + 1 ≡ m = omega arith in rw here at (sum_more f (m - 1))
+
+    pub pins_more : m ≤ largest_net → pins + at beside m ≤ sum (at beside) largest_net
+    pins_more h = omega (arith, r.beside_it, one_more (at beside), sum_grows (at beside) m largest_net h)
+
+    pub need_more : {x : ℕ} → x ≡ bit (other_from first last near far beside past c m)
+        → NeedTo first last near far beside past c (m + 1) (pins + at beside m) (others + x)
+    need_more e = let same : m + 1 - 1 ≡ m = omega arith in record {
+      beside_it = rw same (omega (arith, r.beside_it, one_more (at beside)));
+      passed = rw same (omega (arith, r.passed, e, one_more (λ v. bit (other_from first last near far beside past c v))));
+    }
+
+  pub need_all : m ≡ net_entries → pins + others ≡ sum (need_from first last near far beside past c) largest_net
+  need_all e = let all : m - 1 ≡ largest_net = omega arith in
+      omega (arith, rw all at r.beside_it, rw all at r.passed, two_sums first last near far beside past c)
+
+pub need_none : {first last near far beside : List ℕ} {past c : ℕ} → NeedTo first last near far beside past c 1 0 0
+need_none = record { beside_it = sym (sum_none _); passed = sym (sum_none _) }
 
 -- a column that must pass a net for b or d has pins of it beside it
 absorbed : (a b d : Bool) (e : ℕ) → (b ≡ true → 1 ≤ e) → (d ≡ true → 1 ≤ e) → max (bit a) e ≡ max (bit (a || b || d)) e

@@ -7,6 +7,7 @@ use mathlib.Core.List.{List}
 use native.Mathlib.Decide.{ℕ_discrete}
 use native.Mathlib.Omega.{arith}
 use borrow.Author.Tests.{eq-eqb, ne_eqb}
+use Rattle.std.specs.Int.{div_ceil}
 use Rattle.counting.specs.Counting.{In, ceil}
 use Rattle.counting.proofs.Sums.{split}
 use Rattle.counting.proofs.Counts.{most_le, count_le}
@@ -21,11 +22,13 @@ use Rattle.density.specs.EdgeFloor.{edge_floor}
 use Rattle.density.proofs.EdgeBounds.{no_fewer, floor_le}
 use Rattle.problem.specs.declared.Problem.{Problem}
 use Rattle.problem.specs.Problem.{Good, pins_in, shape_of, width_of}
-use Rattle.problem.proofs.Sizes.{box_shape, byte2_in}
+use Rattle.problem.proofs.Sizes as sizes
+use Rattle.problem.proofs.Sizes.{box_shape}
 use Rattle.nets.specs.declared.Spans.{Spans}
 use Rattle.nets.specs.Tables.{pin_count_to, first_held, last_held, NetTable, SpansOf}
 use Rattle.figures.specs.declared.Figures.{Figures}
 use Rattle.figures.specs.Figures.{figures_of}
+use Rattle.figures.proofs.Bounds.{rounded_up}
 use Rattle.ticket.specs.declared.Reading.{Reading}
 use Rattle.ticket.specs.Read.{ticket_of}
 use Rattle.ticket.proofs.Good.{reading_good}
@@ -36,15 +39,15 @@ use Rattle.edge_floor.specs.Floors.{answered, refused, told, floors_of, TellsFlo
 
 -- ---- a good box; n and w are its length and width as the code has them
 
-module _ {q : Problem} (good : Good q) (e : q.kind ≡ box) {n w : ℕ} (en : n ≡ q.n.0) (ew : w ≡ q.byte2) where
+module _ {q : Problem} (good : Good q) (e : q.kind ≡ box) {n w : ℕ} (en : n ≡ q.n.0) (ew : w ≡ width_of q) where
   width : width_of q ≡ w
-  width = of_box q.kind 1 1 1 q.byte2 1 e ∙ sym ew
+  width = sym ew
 
   pub length_in : In n longest_side
   length_in = rw en good.columns
 
   pub width_in : In w longest_side
-  width_in = rw ew (byte2_in good)
+  width_in = rw ew (sizes.width_in good)
 
   module _ (t : Spans) (tables : SpansOf q t) where
     -- the tables' sides, by the sizes that the code has
@@ -112,11 +115,14 @@ module _ {q : Problem} (good : Good q) (e : q.kind ≡ box) {n w : ℕ} (en : n 
             (tabled (last_held (entry p.west) (entry p.east)) _ tables.tracks.last) (up_is (ap (λ f. f.up) figures)) in
             ap₂ floor (ap (λ (x : ℕ). ceil x w) a) (ap (λ (x : ℕ). ceil x n) b) ∙ same_grid (λ g. edge_floor g (pins_in p))
 
-        pub box_answered : {x : ℕ} → x ≡ floor (ceil columns w) (ceil tracks n)
+        rounded : floor (div_ceil columns w) (div_ceil tracks n) ≡ floor (ceil columns w) (ceil tracks n)
+        rounded = ap₂ floor (rounded_up columns w width_in.0) (rounded_up tracks n length_in.0)
+
+        pub box_answered : {x : ℕ} → x ≡ floor (div_ceil columns w) (div_ceil tracks n)
             → record { refusal = refusal 0 0; floor = f.floor; edge = record { 0 = x } } ≡ answered q
         box_answered {x} h =
             let edge : x ≡ by_kind q.kind 0 0 0 (edge_floor (shape_of q) (pins_in q.pins)) 0 =
-            h ∙ edge_is ∙ sym (of_box q.kind 0 0 0 _ 0 e) in
+            h ∙ rounded ∙ edge_is ∙ sym (of_box q.kind 0 0 0 _ 0 e) in
             λ i. record { refusal = refusal 0 0; floor = (figures i).floor; edge = record { 0 = edge i } }
 
 -- ---- every answer

@@ -1,24 +1,23 @@
 // The edge floor: a lower bound on the layers of a box that is sharper than Survey's floor. Public call: edge_floor.
 #![tactic(auto)]
 
-ghost use Rattle.std.specs.Prelude.{◌≡◌, ◌≤◌, ◌<◌};
-ghost use Rattle.counting.specs.Counting.{bit, sum, count};
+ghost use Rattle.std.specs.Prelude.{◌≡◌, ◌+◌, ◌≤◌, ◌<◌};
+ghost use Rattle.counting.specs.Counting.{sum, count};
 ghost use Rattle.terms.specs.Limits.{largest_net, longest_side, byte_values, table_sum};
 ghost use Rattle.terms.specs.Kinds.{box};
 ghost use Rattle.grid.specs.Legal.{entry};
 ghost use Rattle.problem.specs.Problem.{Good};
 ghost use Rattle.nets.specs.Tables.{NetTable, Numbered, SpansOf, holds_at};
-ghost use Rattle.figures.specs.Crossings.{at, tables_of, spans_from};
-ghost use Rattle.edge_floor.specs.Needs.{over, is_other, need_from, EndsOf, MostNeed};
+ghost use Rattle.figures.specs.Crossings.{at};
+ghost use Rattle.edge_floor.specs.Needs.{over, need_from, EndsOf, MostNeed};
 ghost use Rattle.edge_floor.specs.Floors.{answered, refused, TellsFloors};
 
+use figures::along::Along;
 use figures::{figures_of, floor_for};
-use grid::{Layer, column_count};
-use nets::{choose, high_of, low_of, net_at};
+use grid::Layer;
+use nets::{Spans, high_of, low_of, net_at};
 use problem::Problem;
-use terms::{
-    BOX, LARGEST_NET, LONGEST_SIDE, NET_ENTRIES, Refusal, both, larger, refuse, rounded_up, wide,
-};
+use terms::{BOX, LONGEST_SIDE, NET_ENTRIES, Refusal, refuse};
 
 #[derive(Clone, Copy)]
 pub struct EdgeFloorAnswer {
@@ -29,22 +28,16 @@ pub struct EdgeFloorAnswer {
 
 // At how many places one of two sides across from each other holds each net; a place where both do counts once. An empty place is
 // entered at 0, which is cleared at the end.
-fn held_counts<'a>(
-    a: &'a [u8; LONGEST_SIDE],
-    b: &'a [u8; LONGEST_SIDE],
-    places: usize,
-) -> [u8; NET_ENTRIES]
+fn held_counts(a: &[u8; LONGEST_SIDE], b: &[u8; LONGEST_SIDE], places: usize) -> [u8; NET_ENTRIES]
     requires { (places ≤ longest_side) × Numbered a.now × Numbered b.now }
     ensures { NetTable (λ m. count (holds_at (entry a.now) (entry b.now) m) places) result }
 {
     let mut held = [0u8; NET_ENTRIES];
-    let mut i: usize = 0;
-    while i < places {
+    for i in 0..places {
         let m = net_at(a, i);
         let k = net_at(b, i);
-        i += 1;
-        held[m] = held[m] + 1;
-        held[k] = held[k] + choose(m == k, 0, 1);
+        held[m] += 1;
+        held[k] += u8::from(m != k);
     }
     held[0] = 0;
     held
@@ -54,121 +47,69 @@ fn held_counts<'a>(
 fn is_over(low: u8, high: u8, c: u8) -> bool
     ensures { result ≡ over low high c }
 {
-    both(both(low <= c, c <= high), low < high)
+    (low <= c) & (c <= high) & (low < high)
 }
 
-// 1 for a net that column c must pass and that has no pin beside it.
-fn other(first: u8, last: u8, near: u8, far: u8, beside: u8, past: u8, c: u8) -> u8
-    ensures { (result ≡ bit (is_other first last near far beside past c)) × (result ≤ 1) }
-{
-    let low = low_of(first, near, far, past);
-    let high = high_of(last, far, past);
-    choose(both(beside == 0, is_over(low, high, c)), 1, 0)
-}
-
-// What column c, the first or the last, needs: its nets' pins beside it, and 1 for each other net that it must pass. Two sums of bytes,
-// so that many nets are treated at once.
-fn need_at<'a>(
-    first: &'a [u8; NET_ENTRIES],
-    last: &'a [u8; NET_ENTRIES],
-    near: &'a [u8; NET_ENTRIES],
-    far: &'a [u8; NET_ENTRIES],
-    beside: &'a [u8; NET_ENTRIES],
-    past: u8,
-    c: u8,
-) -> usize
+// What column c, the first or the last, needs: its nets' pins beside it, and 1 for each net that it must pass and that has no pin there.
+// Two sums of bytes, so that many nets are treated at once.
+fn need_at(x: Along, beside: &[u8; NET_ENTRIES], c: u8) -> usize
     requires { sum (at beside.now) largest_net < byte_values }
-    ensures value { result ≡ sum (need_from first.now last.now near.now far.now
-        beside.now past c) largest_net }
+    ensures value { result ≡ sum (need_from x.entry.first.now x.entry.last.now x.entry.near.now x.entry.far.now
+        beside.now (x.entry.places + 1) c) largest_net }
     ensures upper_bound { result ≤ table_sum }
 {
+    let past = x.places as u8 + 1;
     let mut pins: u8 = 0;
     let mut others: u8 = 0;
-    let mut m: usize = 0;
-    while m < LARGEST_NET {
-        m += 1;
+    for m in 1..NET_ENTRIES {
+        let low = low_of(x.first[m], x.near[m], x.far[m], past);
+        let high = high_of(x.last[m], x.far[m], past);
         pins += beside[m];
-        others += other(first[m], last[m], near[m], far[m], beside[m], past, c);
+        others += u8::from((beside[m] == 0) & is_over(low, high, c));
     }
-    wide(pins) + wide(others)
+    usize::from(pins) + usize::from(others)
 }
 
-// The most that one of n columns needs. Between the first and the last it is what they must pass, so that across tells it. Where n is 1
-// both sides are beside the one column.
-fn most_need<'a, 'b>(
-    a: &'b [u8; LONGEST_SIDE],
-    b: &'b [u8; LONGEST_SIDE],
-    first: &'a [u8; NET_ENTRIES],
-    last: &'a [u8; NET_ENTRIES],
-    near: &'a [u8; NET_ENTRIES],
-    far: &'a [u8; NET_ENTRIES],
-    n: usize,
+// The most that a column needs, where near and far are the sides of w places beside the first and the last. Between these two it is what
+// they must pass, so that across tells it. Where there is one column, both sides are beside it.
+fn most_need(
+    x: Along,
+    near: &[u8; LONGEST_SIDE],
+    far: &[u8; LONGEST_SIDE],
     w: usize,
     across: usize,
 ) -> usize
-    requires { EndsOf a.now b.now near.now far.now n w × (across ≤ table_sum) }
-    ensures { MostNeed a.now b.now first.now last.now near.now
-        far.now n w across result }
+    requires { EndsOf near.now far.now x.near.now x.far.now x.places w × (across ≤ table_sum) }
+    ensures { MostNeed near.now far.now x.entry.first.now x.entry.last.now x.entry.near.now x.entry.far.now x.entry.places w across result }
 {
-    let past = n as u8 + 1;
-    if n == 1 {
-        let beside = held_counts(a, b, w);
-        return larger(across, need_at(first, last, near, far, &beside, past, 1));
+    if x.places == 1 {
+        let beside = held_counts(near, far, w);
+        return across.max(need_at(x, &beside, 1));
     }
-    let begin = need_at(first, last, near, far, near, past, 1);
-    let end = need_at(first, last, near, far, far, past, n as u8);
-    larger(across, larger(begin, end))
+    let begin = need_at(x, x.near, 1);
+    let end = need_at(x, x.far, x.places as u8);
+    across.max(begin.max(end))
 }
 
 // Both floors of a good box, by its table of spans.
-fn box_floors<'a>(
-    q: Problem,
-    first: &'a [u8; NET_ENTRIES],
-    last: &'a [u8; NET_ENTRIES],
-    norths: &'a [u8; NET_ENTRIES],
-    souths: &'a [u8; NET_ENTRIES],
-    low: &'a [u8; NET_ENTRIES],
-    high: &'a [u8; NET_ENTRIES],
-    wests: &'a [u8; NET_ENTRIES],
-    easts: &'a [u8; NET_ENTRIES],
-) -> EdgeFloorAnswer
-    requires { Good q × (q.kind ≡ box) × SpansOf q (spans_from (tables_of norths.now souths.now first.now last.now)
-        (tables_of wests.now easts.now low.now high.now)) }
-    ensures { result ≡ answered q }
+fn box_floors(q: &Problem, spans: &Spans) -> EdgeFloorAnswer
+    requires { Good q.now × (q.now.kind ≡ box) × SpansOf q.now spans.now }
+    ensures { result ≡ answered q.now }
 {
-    let f = figures_of(q, first, last, norths, souths, low, high, wests, easts);
-    let n = column_count(q.n);
-    let w = wide(q.byte2);
-    let columns = most_need(
-        &q.pins.west,
-        &q.pins.east,
-        first,
-        last,
-        wests,
-        easts,
-        n,
-        w,
-        f.across,
-    );
-    let tracks = most_need(
-        &q.pins.south,
-        &q.pins.north,
-        low,
-        high,
-        souths,
-        norths,
-        w,
-        n,
-        f.up,
-    );
-    let edge = floor_for(rounded_up(columns, w), rounded_up(tracks, n));
-    let floor = f.floor;
+    let f = figures_of(q, spans);
+    let columns = Along::columns(q, spans);
+    let tracks = Along::tracks(q, spans);
+    let n = columns.places;
+    let w = tracks.places;
+    let column_need = most_need(columns, &q.pins.west, &q.pins.east, w, f.across);
+    let track_need = most_need(tracks, &q.pins.south, &q.pins.north, n, f.up);
+    let edge = floor_for(column_need.div_ceil(w), track_need.div_ceil(n));
     EdgeFloorAnswer {
         refusal: Refusal {
             number: 0,
             place: 0,
         },
-        floor,
+        floor: f.floor,
         edge: Layer(edge),
     }
 }
@@ -188,23 +129,12 @@ pub fn edge_floor(ticket: &[u8]) -> EdgeFloorAnswer
     ensures { TellsFloors ticket.now result }
 {
     let t = ticket::parse_spans(ticket);
-    let refusal = t.refusal;
-    if refusal.number != 0 {
-        return refused(refusal);
+    if t.refusal.number != 0 {
+        return refused(t.refusal);
     }
-    let q = t.problem;
-    if q.kind != BOX {
+    let kind = t.problem.kind;
+    if kind != BOX {
         return refused(refuse(0, 0));
     }
-    box_floors(
-        q,
-        &t.spans.columns.first,
-        &t.spans.columns.last,
-        &t.spans.columns.one,
-        &t.spans.columns.two,
-        &t.spans.tracks.first,
-        &t.spans.tracks.last,
-        &t.spans.tracks.one,
-        &t.spans.tracks.two,
-    )
+    box_floors(&t.problem, &t.spans)
 }

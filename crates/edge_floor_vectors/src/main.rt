@@ -1,9 +1,7 @@
 // Prints the answer to each stored ticket: number, place, floor and edge floor.
 #![tactic(auto)]
 
-ghost use Rattle.std.specs.Prelude.{◌≤◌, length, IfOk};
-
-use records::{field, last_field};
+use records::{Records, field, last_field};
 use std::io;
 
 fn show(rt: &impl Print, ticket: &[u8]) -> io::Result<()> {
@@ -13,34 +11,11 @@ fn show(rt: &impl Print, ticket: &[u8]) -> io::Result<()> {
     last_field(rt, grid::layer_count(a.edge))
 }
 
-// Shows the record that starts at `at`, and answers where it ends: at `at` itself where it is not whole.
-fn one(rt: &impl Print, s: &[u8], at: usize) -> io::Result<usize>
-    requires { at ≤ length s.now }
-    ensures { IfOk result (λ next. next ≤ length s.now) }
-{
-    let r = records::record_at(s, at, 0);
-    let from = r.from;
-    let end = r.end;
-    if end <= at {
-        return Ok(at);
-    }
-    show(rt, &s[from..end])?;
-    Ok(end)
-}
-
-fn all(rt: &impl Print, s: &[u8]) -> io::Result<()> {
-    let mut at = 0;
-    loop {
-        let next = one(rt, s, at)?;
-        if next <= at {
-            return Ok(());
-        }
-        at = next;
-    }
-}
-
 fn main(rt: HostRuntime) -> io::Result<()> {
     let mut buffer = [0u8; records::MOST_INPUT];
     let n = records::read_full(&mut rt.stdin(), &mut buffer)?;
-    all(&rt, &buffer[..n])
+    for record in Records::<0>::new(&buffer[..n]) {
+        show(&rt, record.ticket)?;
+    }
+    Ok(())
 }

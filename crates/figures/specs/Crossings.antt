@@ -25,7 +25,6 @@
 --                            of a box, if boxed; and then it is up, where they are west and east, and south and north
 --   UpFor kind a b near far n r
 --                            r is up of a box, where a and b are west and east, and near and far have the pins on south and north
---   tables_of, spans_from    the table of spans whose lists are these
 use Rattle.std.specs.Prelude.{ℕ, ◌+◌, ◌≤◌, ◌<◌, max, ◌≡◌, Bool, true, cond, not, ◌&&◌, ◌||◌, List, eqb, leb, length, get_or}
 use Rattle.counting.specs.Counting.{In, bit, count}
 use Rattle.terms.specs.Kinds.{by_kind}
@@ -33,8 +32,6 @@ use Rattle.terms.specs.Limits.{largest_net, longest_side, net_entries}
 use Rattle.grid.specs.Grid.{upright}
 use Rattle.grid.specs.Legal.{entry, pins_of}
 use Rattle.density.specs.Density.{across, box_across, up}
-use Rattle.nets.specs.declared.PinTable.{PinTable}
-use Rattle.nets.specs.declared.Spans.{Spans}
 use Rattle.nets.specs.Tables.{pin_count_to, holds_at, first_held, last_held, high_of, NetTable, Numbered}
 
 abbrev pub at : List ℕ → ℕ → ℕ
@@ -104,9 +101,3 @@ pub record UpFor (kind : ℕ) (a b near far : List ℕ) (n r : ℕ) : Type 0 whe
   pub small : r ≤ largest_net
   pub tracks : (c d : List ℕ) (w : ℕ) → NetTable (pin_count_to (entry c) w) near → NetTable (pin_count_to (entry d) w) far
       → r ≡ by_kind kind 0 0 0 (up (upright w n 1) (pins_of d c a b)) 0
-
-abbrev pub tables_of : List ℕ → List ℕ → List ℕ → List ℕ → PinTable
-tables_of one two first last = record { one = one; two = two; first = first; last = last }
-
-abbrev pub spans_from : PinTable → PinTable → Spans
-spans_from columns tracks = record { columns = columns; tracks = tracks }

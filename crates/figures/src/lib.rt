@@ -1,6 +1,8 @@
 // The figures of a problem: what its columns and tracks must pass, and what follows of tracks, layers and floor.
 #![tactic(auto)]
 
+pub mod along;
+
 ghost use Rattle.std.specs.Prelude.{◌≡◌, ◌+◌, ◌*◌, ◌-◌, ◌≤◌, max};
 ghost use Rattle.counting.specs.Counting.{In, most};
 ghost use Rattle.terms.specs.Limits.{largest_net, longest_side, table_sum};
@@ -8,20 +10,20 @@ ghost use Rattle.terms.specs.Kinds.{layers_for};
 ghost use Rattle.grid.specs.Legal.{nets};
 ghost use Rattle.density.specs.Density.{tracks_for, floor};
 ghost use Rattle.problem.specs.Problem.{Good};
-ghost use Rattle.nets.specs.Tables.{SpansOf, Numbered};
+ghost use Rattle.nets.specs.Tables.{SpansOf};
 ghost use Rattle.figures.specs.Crossings.{at, nowhere, PerNet, stays_at, begin_of, end_of, comes_to, EndsCounted, EndsAt, goes_over};
-ghost use Rattle.figures.specs.Crossings.{box_over, now_at, AlongSides, Crossed, UpFor, tables_of, spans_from};
+ghost use Rattle.figures.specs.Crossings.{box_over, now_at, Crossed, UpFor};
 ghost use Rattle.figures.specs.Figures.{figures_of};
 
-use grid::{Column, Layer, Track, column_count};
-use nets::{choose, high_of};
+use along::Along;
+use grid::{Column, Layer, Track};
+use nets::{Spans, high_of};
 use problem::Problem;
-use terms::{
-    BOX, LARGEST_NET, LONGEST_SIDE, NET_ENTRIES, both, by_kind, larger, larger_byte, one_if,
-    rounded_up, wide,
-};
+use terms::{BOX, NET_ENTRIES, by_kind};
 
 // Past every column: where a net that stays in one place begins and ends.
+// Kept: measured. With an Option of both places the compiler treats one net at a time, and the two loops over the nets took eleven times
+// as long.
 const NOWHERE: u8 = 255;
 
 #[derive(Clone, Copy)]
@@ -31,6 +33,13 @@ pub struct Figures {
     pub up: usize,
     pub layers: Layer,
     pub floor: Layer,
+}
+
+// The least and the greatest place of each net that does not stay at one column.
+#[derive(Clone, Copy)]
+struct Extents {
+    from: [u8; NET_ENTRIES],
+    to: [u8; NET_ENTRIES],
 }
 
 // How many nets begin on the near side and go on from there, how many begin there, and how many end on the far side.
@@ -45,65 +54,41 @@ pub struct EndCounts {
 fn stays(first: u8, last: u8, near: u8, far: u8) -> bool
     ensures { result ≡ stays_at first last near far }
 {
-    both(first == last, larger_byte(near, far) == 0)
+    (first == last) & (near.max(far) == 0)
 }
 
-// The least place of each net that does not stay at one column.
-fn begins<'a>(
-    first: &'a [u8; NET_ENTRIES],
-    last: &'a [u8; NET_ENTRIES],
-    near: &'a [u8; NET_ENTRIES],
-    far: &'a [u8; NET_ENTRIES],
-    past: u8,
-) -> [u8; NET_ENTRIES]
-    ensures { PerNet nowhere (λ m. begin_of (at first.now m) (at last.now m) (at near.now m)
-        (at far.now m) past) largest_net result }
+// Where each net begins and ends, in one loop over the nets that has no branch.
+fn extents_of(x: Along) -> Extents
+    ensures begins { PerNet nowhere (λ m. begin_of (at x.entry.first.now m) (at x.entry.last.now m) (at x.entry.near.now m)
+        (at x.entry.far.now m) (x.entry.places + 1)) largest_net result.from }
+    ensures ends { PerNet nowhere (λ m. end_of (at x.entry.first.now m) (at x.entry.last.now m) (at x.entry.near.now m)
+        (at x.entry.far.now m) (x.entry.places + 1)) largest_net result.to }
 {
+    let past = x.places as u8 + 1;
     let mut from = [NOWHERE; NET_ENTRIES];
-    let mut m: usize = 0;
-    while m < LARGEST_NET {
-        m += 1;
-        let inner = choose(first[m] == 0, past, first[m]);
-        let low = choose(near[m] == 0, inner, 0);
-        from[m] = choose(stays(first[m], last[m], near[m], far[m]), NOWHERE, low);
-    }
-    from
-}
-
-// The greatest.
-fn ends<'a>(
-    first: &'a [u8; NET_ENTRIES],
-    last: &'a [u8; NET_ENTRIES],
-    near: &'a [u8; NET_ENTRIES],
-    far: &'a [u8; NET_ENTRIES],
-    past: u8,
-) -> [u8; NET_ENTRIES]
-    ensures { PerNet nowhere (λ m. end_of (at first.now m) (at last.now m) (at near.now m)
-        (at far.now m) past) largest_net result }
-{
     let mut to = [NOWHERE; NET_ENTRIES];
-    let mut m: usize = 0;
-    while m < LARGEST_NET {
-        m += 1;
-        let high = high_of(last[m], far[m], past);
-        to[m] = choose(stays(first[m], last[m], near[m], far[m]), NOWHERE, high);
+    for m in 1..NET_ENTRIES {
+        let stays = stays(x.first[m], x.last[m], x.near[m], x.far[m]);
+        let inner = if x.first[m] == 0 { past } else { x.first[m] };
+        let low = if x.near[m] == 0 { inner } else { 0 };
+        let high = high_of(x.last[m], x.far[m], past);
+        from[m] = if stays { NOWHERE } else { low };
+        to[m] = if stays { NOWHERE } else { high };
     }
-    to
+    Extents { from, to }
 }
 
 // These three, in one loop over the nets.
-fn end_counts<'a>(from: &'a [u8; NET_ENTRIES], to: &'a [u8; NET_ENTRIES], past: u8) -> EndCounts
-    ensures { EndsCounted from.now to.now past largest_net result.coming result.near result.far }
+fn end_counts(extents: &Extents, past: u8) -> EndCounts
+    ensures { EndsCounted extents.now.from extents.now.to past largest_net result.coming result.near result.far }
 {
     let mut coming: u8 = 0;
     let mut near: u8 = 0;
     let mut far: u8 = 0;
-    let mut m: usize = 0;
-    while m < LARGEST_NET {
-        m += 1;
-        coming += choose(both(from[m] == 0, to[m] != 0), 1, 0);
-        near += choose(from[m] == 0, 1, 0);
-        far += choose(to[m] == past, 1, 0);
+    for m in 1..NET_ENTRIES {
+        coming += u8::from((extents.from[m] == 0) & (extents.to[m] != 0));
+        near += u8::from(extents.from[m] == 0);
+        far += u8::from(extents.to[m] == past);
     }
     EndCounts { coming, near, far }
 }
@@ -113,106 +98,77 @@ fn now_at(list: &[u8; NET_ENTRIES], m: usize, k: usize, c: usize) -> usize
     requires { (m ≤ largest_net) × (k ≤ largest_net) }
     ensures { result ≡ now_at list.now m k c }
 {
-    one_if(wide(list[m]) == c) + one_if(both(m != k, wide(list[k]) == c))
+    let other = (m != k) & (usize::from(list[k]) == c);
+    usize::from(usize::from(list[m]) == c) + usize::from(other)
 }
 
 // The largest number of nets that go over a column: those that begin at one of its two pins come in, those that end there go.
-fn peak<'a, 'b>(
-    a: &'b [u8; LONGEST_SIDE],
-    b: &'b [u8; LONGEST_SIDE],
-    from: &'a [u8; NET_ENTRIES],
-    to: &'a [u8; NET_ENTRIES],
-    coming: u8,
-    n: usize,
-) -> usize
-    requires n_le_longest_side { (n ≤ longest_side) × Numbered a.now × Numbered b.now × EndsAt a.now b.now n from.now to.now }
-    requires coming_value { coming ≡ nets (comes_to from.now to.now) }
-    ensures { result ≡ most (λ c. nets (goes_over from.now to.now c)) n }
+fn peak(x: Along, extents: &Extents, coming: u8) -> usize
+    requires ends { EndsAt x.side.now x.opposite.now x.places extents.now.from extents.now.to }
+    requires coming_value { coming ≡ nets (comes_to extents.now.from extents.now.to) }
+    ensures { result ≡ most (λ c. nets (goes_over extents.now.from extents.now.to c)) x.entry.places }
 {
-    let mut now = wide(coming);
+    let mut now = usize::from(coming);
     let mut best: usize = 0;
-    let mut c: usize = 0;
-    while c < n {
-        let m = wide(a[c]);
-        let k = wide(b[c]);
-        c += 1;
-        now += now_at(from, m, k, c);
-        best = larger(best, now);
-        now -= now_at(to, m, k, c);
+    for i in 0..x.places {
+        let m = usize::from(x.side[i]);
+        let k = usize::from(x.opposite[i]);
+        now += now_at(&extents.from, m, k, i + 1);
+        best = best.max(now);
+        now -= now_at(&extents.to, m, k, i + 1);
     }
     best
 }
 
 // Of a box, the number of nets that the first or the last of the columns 1 to n must pass, whichever is larger. A net all of whose pins are
 // on the near side begins and ends there, so that it is not among those that come; where n is 1 they are added, and a net counts once.
-fn at_ends<'a, 'b>(
-    a: &'b [u8; LONGEST_SIDE],
-    b: &'b [u8; LONGEST_SIDE],
-    from: &'a [u8; NET_ENTRIES],
-    to: &'a [u8; NET_ENTRIES],
-    coming: u8,
-    near: u8,
-    far: u8,
-    n: usize,
-) -> usize
-    requires fact { In n longest_side × Numbered a.now × Numbered b.now × EndsAt a.now b.now n from.now to.now }
-    requires ends_counted { EndsCounted from.now to.now (n + 1) largest_net coming near far }
-    ensures { result ≡ max (nets (box_over from.now to.now n 1))
-        (nets (box_over from.now to.now n n)) }
+fn at_ends(x: Along, extents: &Extents, ends: EndCounts) -> usize
+    requires ends_at { EndsAt x.side.now x.opposite.now x.places extents.now.from extents.now.to }
+    requires ends_counted { EndsCounted extents.now.from extents.now.to (x.places + 1) largest_net ends.coming ends.near ends.far }
+    ensures { result ≡ max (nets (box_over extents.now.from extents.now.to x.entry.places 1))
+        (nets (box_over extents.now.from extents.now.to x.entry.places x.entry.places)) }
 {
+    let n = x.places;
     let last = n - 1;
-    let starts = wide(near) + now_at(from, wide(a[0]), wide(b[0]), 1);
-    let stops = wide(far) + now_at(to, wide(a[last]), wide(b[last]), n);
+    let begin = now_at(
+        &extents.from,
+        usize::from(x.side[0]),
+        usize::from(x.opposite[0]),
+        1,
+    );
+    let end = now_at(
+        &extents.to,
+        usize::from(x.side[last]),
+        usize::from(x.opposite[last]),
+        n,
+    );
+    let starts = usize::from(ends.near) + begin;
+    let stops = usize::from(ends.far) + end;
     if n == 1 {
-        return stops + wide(near - coming);
+        return stops + usize::from(ends.near - ends.coming);
     }
-    larger(starts, stops)
+    starts.max(stops)
 }
 
-// Across, where a and b are north and south, near and far the pins on west and east; of a box up, where they are west and east, south and
-// north.
-fn density<'a, 'b>(
-    a: &'b [u8; LONGEST_SIDE],
-    b: &'b [u8; LONGEST_SIDE],
-    first: &'a [u8; NET_ENTRIES],
-    last: &'a [u8; NET_ENTRIES],
-    near: &'a [u8; NET_ENTRIES],
-    far: &'a [u8; NET_ENTRIES],
-    n: usize,
-    boxed: bool,
-) -> usize
-    requires { AlongSides a.now b.now first.now last.now n }
-    ensures { Crossed boxed a.now b.now near.now far.now n result }
+// Across, where the two sides are north and south; of a box up, where they are west and east.
+// Kept: two functions in place of `boxed` would be no plainer, since both would repeat the three steps before its test.
+fn density(x: Along, boxed: bool) -> usize
+    ensures { Crossed boxed x.entry.side.now x.entry.opposite.now x.entry.near.now x.entry.far.now x.entry.places result }
 {
-    let past = n as u8 + 1;
-    let from = begins(first, last, near, far, past);
-    let to = ends(first, last, near, far, past);
-    let e = end_counts(&from, &to, past);
-    let most = peak(a, b, &from, &to, e.coming, n);
+    let extents = extents_of(x);
+    let ends = end_counts(&extents, x.places as u8 + 1);
+    let most = peak(x, &extents, ends.coming);
     if boxed {
-        return larger(most, at_ends(a, b, &from, &to, e.coming, e.near, e.far, n));
+        return most.max(at_ends(x, &extents, ends));
     }
     most
 }
 
-// Up, of a box: a and b are its sides west and east, near and far the pins on south and north.
-fn up_for<'a, 'b>(
-    kind: u8,
-    a: &'b [u8; LONGEST_SIDE],
-    b: &'b [u8; LONGEST_SIDE],
-    first: &'a [u8; NET_ENTRIES],
-    last: &'a [u8; NET_ENTRIES],
-    near: &'a [u8; NET_ENTRIES],
-    far: &'a [u8; NET_ENTRIES],
-    w: usize,
-) -> usize
-    requires { AlongSides a.now b.now first.now last.now w }
-    ensures { UpFor kind a.now b.now near.now far.now w result }
+// Up, of a box.
+fn up_for(kind: u8, x: Along) -> usize
+    ensures { UpFor kind x.entry.side.now x.entry.opposite.now x.entry.near.now x.entry.far.now x.entry.places result }
 {
-    if kind == BOX {
-        return density(a, b, first, last, near, far, w, true);
-    }
-    0
+    if kind == BOX { density(x, true) } else { 0 }
 }
 
 // The layers that Lay uses.
@@ -224,65 +180,42 @@ fn layers_for(kind: u8, n: Column, byte2: usize) -> usize
     by_kind(kind, 0, 2 * byte2, 2 * byte2 + 1, 2 * q + 4, 2)
 }
 
+#[tactic(auto, unfolding(density::specs::Density::tracks_for, counting::specs::Counting::ceil))]
 fn tracks_for(h: usize, a: usize) -> usize
     requires { (In h longest_side) × (a ≤ largest_net) }
     ensures { result ≡ tracks_for h a }
 {
-    larger(1, rounded_up(a, h))
-}
-
-// 2a - 1, or 0 where a is 0.
-fn odd(a: usize) -> usize
-    requires { a ≤ table_sum }
-    ensures { result ≡ 2 * a - 1 }
-{
-    if a == 0 {
-        return 0;
-    }
-    2 * a - 1
+    a.div_ceil(h).max(1)
 }
 
 // (For our own crates.)
+#[tactic(auto, unfolding(density::specs::Density::floor))]
 pub fn floor_for(a: usize, b: usize) -> usize
     requires { (a ≤ table_sum) × (b ≤ table_sum) }
     ensures { result ≡ floor a b }
 {
-    larger(1, larger(odd(a), larger(odd(b), a + b)))
+    // 0 where a or b is 0
+    let odd_a = (2 * a).saturating_sub(1);
+    let odd_b = (2 * b).saturating_sub(1);
+    odd_a.max(odd_b).max(a + b).max(1)
 }
 
-// The figures of a good problem, by its table of spans: each net's first and last column, lowest and highest track, and pins on each side.
-// (For our own crates.)
-pub fn figures_of<'a>(
-    q: Problem,
-    first: &'a [u8; NET_ENTRIES],
-    last: &'a [u8; NET_ENTRIES],
-    norths: &'a [u8; NET_ENTRIES],
-    souths: &'a [u8; NET_ENTRIES],
-    low: &'a [u8; NET_ENTRIES],
-    high: &'a [u8; NET_ENTRIES],
-    wests: &'a [u8; NET_ENTRIES],
-    easts: &'a [u8; NET_ENTRIES],
-) -> Figures
-    requires { Good q × SpansOf q (spans_from (tables_of norths.now souths.now first.now last.now)
-        (tables_of wests.now easts.now low.now high.now)) }
-    ensures { result ≡ figures_of q }
+// The figures of a good problem, by its table of spans. (For our own crates.)
+pub fn figures_of(q: &Problem, spans: &Spans) -> Figures
+    requires { Good q.now × SpansOf q.now spans.now }
+    ensures { result ≡ figures_of q.now }
 {
     let kind = q.kind;
-    let n = q.n;
-    let byte2 = wide(q.byte2);
-    let north = q.pins.north;
-    let south = q.pins.south;
-    let west = q.pins.west;
-    let east = q.pins.east;
-    let long = column_count(n);
-    let w = by_kind(kind, 1, 1, 1, byte2, 1);
-    let across = density(&north, &south, first, last, wests, easts, long, kind == BOX);
-    let up = up_for(kind, &west, &east, low, high, souths, norths, w);
-    let tracks = tracks_for(byte2, across);
-    let layers = layers_for(kind, n, byte2);
-    let floor = floor_for(rounded_up(across, w), rounded_up(up, long));
+    let byte2 = usize::from(q.byte2);
+    let columns = Along::columns(q, spans);
+    let tracks = Along::tracks(q, spans);
+    let across = density(columns, kind == BOX);
+    let up = up_for(kind, tracks);
+    let trunks = tracks_for(byte2, across);
+    let layers = layers_for(kind, q.n, byte2);
+    let floor = floor_for(across.div_ceil(tracks.places), up.div_ceil(columns.places));
     Figures {
-        w: Track(by_kind(kind, 0, tracks, tracks, byte2, 0)),
+        w: Track(by_kind(kind, 0, trunks, trunks, byte2, 0)),
         across,
         up,
         layers: Layer(layers),

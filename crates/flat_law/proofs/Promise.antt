@@ -9,8 +9,9 @@ use lib.ListN.{length}
 use borrow.Author.Tests.{eq-eqb, ne_eqb}
 use Rattle.problem.specs.declared.Problem.{Problem}
 use Rattle.problem.specs.Problem.{Good}
-use Rattle.output.specs.declared.Written.{Written}
-use Rattle.output.specs.Writing.{refused_writing, written_for, Wrote}
+use Rattle.std.specs.Prelude.{Result, Err, OnOk}
+use Rattle.terms.specs.declared.Refusal.{Refusal}
+use Rattle.output.specs.Writing.{written_for, written_in, Wrote}
 use Rattle.output.proofs.Laws.{wrote_untouched, wrote_past, wrote_front}
 use Rattle.ticket.specs.declared.Reading.{Reading}
 use Rattle.ticket.specs.Read.{accepted_reading}
@@ -77,19 +78,19 @@ module _ {from to : Form} (f : Faithful from) (t : Faithful to) (s : List ℕ) (
 -- ---- the ways out
 
 module _ {from to : Form} (s before : List ℕ) {t : Reading} (e : t ≡ from.reading s) where
-  pub convert_refused : t.refusal.number ≢ 0 → Converts from to s before before (refused_writing t.refusal)
+  pub convert_refused : t.refusal.number ≢ 0 → Converts from to s before before (Err t.refusal)
   convert_refused n =
       let no : (from.reading s).refusal.number ≢ 0 = λ z. n (ap number e ∙ z) in
       record {
         answer = sym (rw (← e, ne_eqb t.refusal.number 0 n));
-        untouched = λ _. refl;
+        untouched = refl;
         past = refl;
-        bytes = λ z. absurd (n z);
+        bytes = tt;
         same = λ z. absurd (no z);
         back = λ z. absurd (no z);
       }
 
-  pub convert_written : {after : List ℕ} {r : Written} → Faithful from → Faithful to → Bytes s → t.refusal.number ≡ 0
+  pub convert_written : {after : List ℕ} {r : Result ℕ Refusal} → Faithful from → Faithful to → Bytes s → t.refusal.number ≡ 0
       → Wrote (to.bytes t.problem) before after r → Converts from to s before after r
   convert_written {after} {r} ff ft b z w =
       let done : (from.reading s).refusal.number ≡ 0 = sym (ap number e) ∙ z in
@@ -97,7 +98,7 @@ module _ {from to : Form} (s before : List ℕ) {t : Reading} (e : t ≡ from.re
         answer = rw (eq-eqb _ 0 done) (w.answer ∙ ap (λ (u : Reading). written_for (to.bytes u.problem) (length before)) e);
         untouched = wrote_untouched w;
         past = wrote_past w;
-        bytes = λ y. wrote_front w y ∙ ap (λ (u : Reading). to.bytes u.problem) e;
+        bytes = subst (λ (u : Reading). OnOk r (written_in r after ≡ to.bytes u.problem)) e (wrote_front w);
         same = converted_same ff ft s;
         back = λ y. converted_back ff ft s y b;
       }

@@ -8,6 +8,7 @@ ghost use Rattle.ticket.specs.Read.{judged};
 ghost use Rattle.ticket.specs.Steps.{Sited, reading_of};
 ghost use Rattle.flat_reader.specs.Flat.{places_on, place_count, flat_header, flat_pins, flat_ticket_of};
 
+use nets::Spans;
 use problem::Pins;
 use terms::by_kind;
 use ticket::{Parsed, accepted, left_over, net_list, refused, tally};
@@ -86,13 +87,8 @@ fn flat_judged(flat: &[u8], pins: Pins) -> Parsed
 {
     let n = flat[1] as usize;
     let w = by_kind(flat[0], 1, 1, 1, flat[2] as usize, 1);
-    let spans = nets::spans_of(&pins.north, &pins.south, &pins.west, &pins.east, n, w);
-    let tally = tally(
-        &spans.columns.one,
-        &spans.columns.two,
-        &spans.tracks.one,
-        &spans.tracks.two,
-    );
+    let spans = Spans::of(&pins, n, w);
+    let tally = tally(&spans);
     let last = tally.last;
     if last.refusal.number != 0 {
         return refused(last);

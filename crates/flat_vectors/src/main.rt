@@ -2,10 +2,9 @@
 // bytes. A line for each of the two calls: number, place, length, and every byte of the buffer, which was stained before the call.
 #![tactic(auto)]
 
-ghost use Rattle.std.specs.Prelude.{◌≤◌, length, IfOk};
-
-use output::Written;
+use records::Records;
 use std::io;
+use terms::Refusal;
 
 // The bytes of a record after its ticket.
 const FIELDS: usize = 2;
@@ -17,16 +16,16 @@ fn show_byte(rt: &impl Print, b: u8) -> io::Result<()> {
 }
 
 fn show_bytes(rt: &impl Print, buffer: &[u8]) -> io::Result<()> {
-    for i in 0..buffer.len() {
-        show_byte(rt, buffer[i])?;
+    for b in buffer {
+        show_byte(rt, *b)?;
     }
     Ok(())
 }
 
 // The line of a call.
-fn show(rt: &impl Print, r: Written, buffer: &[u8]) -> io::Result<()> {
-    records::refusal_fields(rt, r.refusal)?;
-    rt.print(r.length)?;
+fn show(rt: &impl Print, r: Result<usize, Refusal>, buffer: &[u8]) -> io::Result<()> {
+    records::outcome_fields(rt, r)?;
+    rt.print(r.unwrap_or(0))?;
     show_bytes(rt, buffer)?;
     println!(rt; "")
 }
@@ -40,39 +39,17 @@ fn both_ways(rt: &impl Print, bytes: &[u8], buffer: &mut [u8]) -> io::Result<()>
     show(rt, unflattened, buffer)
 }
 
-// Shows the record that starts at `at`, and answers where it ends: at `at` itself where it is not whole.
-fn one(rt: &impl Print, s: &[u8], at: usize, buffer: &mut [u8]) -> io::Result<usize>
-    requires { at ≤ length s.now }
-    ensures { IfOk result (λ next. next ≤ length s.now) }
-{
-    let r = records::record_at(s, at, FIELDS);
-    let from = r.from;
-    let end = r.end;
-    if end <= at {
-        return Ok(at);
-    }
-    let size = records::pair(s, end);
-    if buffer.len() < size {
-        return Ok(at);
-    }
-    both_ways(rt, &s[from..end], &mut buffer[..size])?;
-    Ok(end + FIELDS)
-}
-
-fn all(rt: &impl Print, s: &[u8], buffer: &mut [u8]) -> io::Result<()> {
-    let mut at = 0;
-    loop {
-        let next = one(rt, s, at, buffer)?;
-        if next <= at {
-            return Ok(());
-        }
-        at = next;
-    }
-}
-
 fn main(rt: HostRuntime) -> io::Result<()> {
     let mut input = [0u8; records::MOST_INPUT];
     let mut buffer = [0u8; LONGEST_BUFFER];
     let n = records::read_full(&mut rt.stdin(), &mut input)?;
-    all(&rt, &input[..n], &mut buffer)
+    for record in Records::<FIELDS>::new(&input[..n]) {
+        let fields = record.fields;
+        let size = records::pair(fields, 0);
+        if buffer.len() < size {
+            return Ok(());
+        }
+        both_ways(&rt, record.ticket, &mut buffer[..size])?;
+    }
+    Ok(())
 }

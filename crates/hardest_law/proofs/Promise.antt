@@ -23,8 +23,9 @@ use Rattle.ticket.specs.declared.Reading.{Reading}
 use Rattle.ticket.specs.Read.{accepted_reading, ticket_of, problem_of}
 use Rattle.ticket.proofs.Good.{read_good}
 use Rattle.survey.specs.Survey.{surveyed, survey_of}
-use Rattle.output.specs.declared.Written.{Written}
-use Rattle.output.specs.Writing.{refused_writing, written_for, written_in, Wrote}
+use Rattle.std.specs.Prelude.{Result, Ok, Err, OnOk}
+use Rattle.terms.specs.declared.Refusal.{Refusal}
+use Rattle.output.specs.Writing.{written_for, written_in, Wrote}
 use Rattle.output.proofs.Laws.{wrote_untouched, wrote_past, wrote_front}
 use Rattle.ticket_bytes.specs.Bytes.{bytes_of}
 use Rattle.ticket_bytes.proofs.ReadBack.{read_back}
@@ -106,8 +107,14 @@ module _ (n w : ℕ) (long : In n longest_side) (broad : In w longest_side) wher
 -- ---- the ways out
 
 -- what a call answers that writes so many bytes
-abbrev answer_for : ℕ → ℕ → Written
-answer_for k size = unless (leb k size) (refused_writing (refusal 19 k)) (record { refusal = refusal 0 0; length = k })
+abbrev answer_for : ℕ → ℕ → Result ℕ Refusal
+answer_for k size = unless (leb k size) (Err (refusal 19 k)) (Ok k)
+
+-- where the call is accepted, what is written is these bytes: what holds of them holds of it
+of_written : (r : Result ℕ Refusal) (after bytes : List ℕ) (P : List ℕ → Type 0) → OnOk r (written_in r after ≡ bytes) → P bytes
+    → OnOk r (P (written_in r after))
+of_written (Ok k) after bytes P same holds = subst P (sym same) holds
+of_written (Err e) after bytes P same holds = tt
 
 pub shape_in : (n w : ℕ) → is_shape n w ≡ true → In n longest_side × In w longest_side
 shape_in n w e =
@@ -115,17 +122,9 @@ shape_in n w e =
     (within_in n longest_side both.0, within_in w longest_side both.1)
 
 module _ (n w : ℕ) (before : List ℕ) where
-  pub shape_refused : is_shape n w ≡ false → WritesHardest n w before before (refused_writing (refusal 18 0))
+  pub shape_refused : is_shape n w ≡ false → WritesHardest n w before before (Err (refusal 18 0))
   shape_refused e =
-      record {
-        answer = rw e;
-        untouched = λ z. refl;
-        past = refl;
-        full = λ z. absurd (omega arith);
-        floor = λ z. absurd (omega arith);
-        highest = highest n w;
-        near = λ z. absurd (omega arith);
-      }
+      record { answer = rw e; untouched = refl; past = refl; full = tt; floor = tt; highest = highest n w; near = tt }
 
   module _ (shape : is_shape n w ≡ true) where
     long : In n longest_side
@@ -140,17 +139,20 @@ module _ (n w : ℕ) (before : List ℕ) where
     answered : answer_for (length (ticket n w)) (length before) ≡ hardest_answer n w (length before)
     answered = rw shape (ap (λ (k : ℕ). answer_for k (length before)) size)
 
-    pub box_written : {after : List ℕ} {r : Written} → Wrote (ticket n w) before after r → WritesHardest n w before after r
+    near_written : (t : List ℕ) → BoxOf n w t → survey_layers t ≤ survey_floor (ticket n w) + 3
+    near_written t b = omega (arith, layers n w t b, floor n w long broad)
+
+    pub box_written : {after : List ℕ} {r : Result ℕ Refusal} → Wrote (ticket n w) before after r → WritesHardest n w before after r
     unfolding written_for
     box_written {after} {r} wrote =
-        let low : r.refusal.number ≡ 0 → survey_floor (written_in r after) ≡ hardest_floor n w =
-        λ z. ap survey_floor (wrote_front wrote z) ∙ floor n w long broad in
+        let front = wrote_front wrote in
         record {
           answer = wrote.answer ∙ answered;
           untouched = wrote_untouched wrote;
           past = wrote_past wrote;
-          full = λ z. subst (FullBox n w) (sym (wrote_front wrote z)) (full n w long broad);
-          floor = low;
+          full = of_written r after (ticket n w) (FullBox n w) front (full n w long broad);
+          floor = of_written r after (ticket n w) (λ (t : List ℕ). survey_floor t ≡ hardest_floor n w) front (floor n w long broad);
           highest = highest n w;
-          near = λ z t b. omega (arith, layers n w t b, low z);
+          near = of_written r after (ticket n w) (λ (u : List ℕ). (t : List ℕ) → BoxOf n w t → survey_layers t ≤ survey_floor u + 3) front
+              near_written;
         }

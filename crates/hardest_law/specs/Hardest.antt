@@ -12,25 +12,25 @@
 --                       length needed), lent buffer too short"; "an accepted call that writes a ticket gives the length written"
 --   WritesHardest n w before after r
 --                       the promise of a call that answers r and leaves the buffer, which was before, as after:
---     answer            number, place and length
+--     answer            the length, or the refusal's number and place
 --     untouched         "a refused one alters no lent byte"
 --     past              "bytes past it are untouched"
 --     full              Read accepts what is written, as a box of that shape with every place filled
 --     floor             its floor
 --     highest           "no box ticket of that shape has a higher floor": any list of bytes s that Read accepts as such a box
 --     near              "So what we lay is never more than three layers above what that shape can force": any such box s
-use Rattle.std.specs.Prelude.{ℕ, ◌+◌, ◌*◌, ◌≤◌, max, ◌≡◌, ◌≢◌, Bool, ◌&&◌, List, leb, length, drop}
+use Rattle.std.specs.Prelude.{ℕ, ◌+◌, ◌*◌, ◌≤◌, max, ◌≡◌, ◌≢◌, Bool, ◌&&◌, List, leb, length, drop, Result, Ok, Err, OnOk, OnErr}
 use Rattle.counting.specs.Counting.{In}
 use Rattle.terms.specs.Kinds.{Side, box, quotient}
 use Rattle.terms.specs.Limits.{longest_side, within}
+use Rattle.terms.specs.declared.Refusal.{Refusal}
 use Rattle.terms.specs.Refusals.{refusal, unless}
 use Rattle.grid.specs.Grid.{places}
 use Rattle.problem.specs.Problem.{shape_of}
 use Rattle.ticket_sides.specs.Format.{map_bytes}
 use Rattle.ticket.specs.Read.{ticket_of, problem_of, ticket_pins}
 use Rattle.survey.specs.Survey.{survey_of}
-use Rattle.output.specs.declared.Written.{Written}
-use Rattle.output.specs.Writing.{refused_writing, written_in}
+use Rattle.output.specs.Writing.{written_length, written_in}
 
 pub record BoxOf (n w : ℕ) (s : List ℕ) : Type 0 where
   pub accepted : (ticket_of s).refusal.number ≡ 0
@@ -57,17 +57,17 @@ is_shape n w = within n longest_side && within w longest_side
 abbrev pub full_length : ℕ → ℕ → ℕ
 full_length n w = 4 + 2 * (map_bytes n + n) + 2 * (map_bytes w + w)
 
-abbrev pub hardest_answer : ℕ → ℕ → ℕ → Written
+abbrev pub hardest_answer : ℕ → ℕ → ℕ → Result ℕ Refusal
 hardest_answer n w size =
-    unless (is_shape n w) (refused_writing (refusal 18 0))
-    (unless (leb (full_length n w) size) (refused_writing (refusal 19 (full_length n w)))
-    (record { refusal = refusal 0 0; length = full_length n w }))
+    unless (is_shape n w) (Err (refusal 18 0))
+    (unless (leb (full_length n w) size) (Err (refusal 19 (full_length n w)))
+    (Ok (full_length n w)))
 
-pub record WritesHardest (n w : ℕ) (before after : List ℕ) (r : Written) : Type 0 where
+pub record WritesHardest (n w : ℕ) (before after : List ℕ) (r : Result ℕ Refusal) : Type 0 where
   pub answer : r ≡ hardest_answer n w (length before)
-  pub untouched : r.refusal.number ≢ 0 → after ≡ before
-  pub past : drop r.length after ≡ drop r.length before
-  pub full : r.refusal.number ≡ 0 → FullBox n w (written_in r after)
-  pub floor : r.refusal.number ≡ 0 → survey_floor (written_in r after) ≡ hardest_floor n w
+  pub untouched : OnErr r (after ≡ before)
+  pub past : drop (written_length r) after ≡ drop (written_length r) before
+  pub full : OnOk r (FullBox n w (written_in r after))
+  pub floor : OnOk r (survey_floor (written_in r after) ≡ hardest_floor n w)
   pub highest : (s : List ℕ) → BoxOf n w s → survey_floor s ≤ hardest_floor n w
-  pub near : r.refusal.number ≡ 0 → (s : List ℕ) → BoxOf n w s → survey_layers s ≤ survey_floor (written_in r after) + 3
+  pub near : OnOk r ((s : List ℕ) → BoxOf n w s → survey_layers s ≤ survey_floor (written_in r after) + 3)

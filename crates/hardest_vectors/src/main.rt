@@ -3,13 +3,13 @@
 // the buffer's length of two: number, place, length and the hash of the whole buffer.
 #![tactic(auto)]
 
-ghost use Rattle.std.specs.Prelude.{◌+◌, ◌≤◌, length};
+ghost use Rattle.std.specs.Prelude.{◌≤◌, length};
 
 use grid::{Column, Track};
 use output::MOST_OUTPUT;
 use records::{field, hash, last_field};
 use std::io;
-use terms::{LONGEST_SIDE, smaller};
+use terms::LONGEST_SIDE;
 
 // The bytes of a record.
 const FIELDS: usize = 18;
@@ -20,14 +20,12 @@ const LONGEST_BUFFER: usize = 512;
 fn widths(rt: &impl Print, n: usize, buffer: &mut [u8]) -> io::Result<()>
     requires { length buffer.old ≤ 512 }
 {
-    let mut total: usize = 0;
-    let mut h: usize = 0;
-    let mut w: usize = 0;
-    while w < LONGEST_SIDE {
-        w += 1;
+    let mut total = 0;
+    let mut h = 0;
+    for w in 1..=LONGEST_SIDE {
         records::stain(buffer);
         let r = hardest::hardest_box(Column(n), Track(w), buffer);
-        total += smaller(r.length, buffer.len());
+        total += r.unwrap_or(0).min(buffer.len());
         h = hash(buffer, h);
     }
     field(rt, n)?;
@@ -35,48 +33,34 @@ fn widths(rt: &impl Print, n: usize, buffer: &mut [u8]) -> io::Result<()>
     last_field(rt, h)
 }
 
-fn shapes(rt: &impl Print, buffer: &mut [u8]) -> io::Result<()>
-    requires { length buffer.old ≤ 512 }
+// The line of a record; the buffer beyond its length is not lent to the call.
+fn show(rt: &impl Print, record: &[u8], buffer: &mut [u8]) -> io::Result<()>
+    requires { 18 ≤ length record.now }
 {
-    let mut n: usize = 0;
-    while n < LONGEST_SIDE {
-        n += 1;
-        widths(rt, n, buffer)?;
-    }
-    Ok(())
-}
-
-// The record at `at`; the buffer beyond its length is not lent to the call.
-fn one(rt: &impl Print, s: &[u8], at: usize, buffer: &mut [u8]) -> io::Result<()>
-    requires { at + 18 ≤ length s.now }
-{
-    let n = records::eight(s, at);
-    let w = records::eight(s, at + 8);
-    let size = records::pair(s, at + 16);
+    let n = records::eight(record, 0);
+    let w = records::eight(record, 8);
+    let size = records::pair(record, 16);
     if buffer.len() < size {
         return Ok(());
     }
     records::stain(buffer);
     let r = hardest::hardest_box(Column(n), Track(w), &mut buffer[..size]);
-    records::refusal_fields(rt, r.refusal)?;
-    field(rt, r.length)?;
+    records::outcome_fields(rt, r)?;
+    field(rt, r.unwrap_or(0))?;
     last_field(rt, hash(buffer, 0))
-}
-
-fn all(rt: &impl Print, s: &[u8], buffer: &mut [u8]) -> io::Result<()> {
-    let mut at = 0;
-    while FIELDS <= s.len() - at {
-        one(rt, s, at, buffer)?;
-        at += FIELDS;
-    }
-    Ok(())
 }
 
 fn main(rt: HostRuntime) -> io::Result<()> {
     let mut ticket = [0u8; MOST_OUTPUT];
-    shapes(&rt, &mut ticket)?;
+    for n in 1..=LONGEST_SIDE {
+        widths(&rt, n, &mut ticket)?;
+    }
     let mut input = [0u8; records::MOST_INPUT];
     let mut buffer = [0u8; LONGEST_BUFFER];
     let n = records::read_full(&mut rt.stdin(), &mut input)?;
-    all(&rt, &input[..n], &mut buffer)
+    let all = &input[..n];
+    for record in all.chunks_exact(FIELDS) {
+        show(&rt, record, &mut buffer)?;
+    }
+    Ok(())
 }

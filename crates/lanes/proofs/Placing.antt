@@ -5,6 +5,7 @@ use mathlib.Core.Logic.{◌≢◌, ◌⊎◌, inl, inr, ⊎_elim, ⊎_map, by_ca
 use mathlib.Core.List.{List}
 use mathlib.Core.Bool.{Bool, true, false, not, cond, false≢true, true≢false}
 use native.Mathlib.Omega.{arith}
+use mir.Val.{bool_byte}
 use native.Mathlib.Numerals.{add-one}
 use native.Mathlib.Decide.{ℕ_discrete, dec_le}
 use lib.ListN.{length, get_or, set, length-set, replicate, get_or-replicate, get_or-eq_default}
@@ -19,6 +20,7 @@ use Rattle.switchbox_law.specs.Rules.{wanted}
 use Rattle.switchbox_law.specs.Drawing.{Lanes}
 use Rattle.lanes.specs.Tables.{most_lanes, Nets, tallies, Asked}
 use Rattle.lanes.specs.Placing.{Took, Listed, Distinct, Spread}
+use Rattle.lanes.proofs.Counted.{byte_bit, counted_more, counted_few}
 
 -- a net stands at a place of the side
 pub within : (own : List ℕ) (i : ℕ) → get_or own i 0 ≢ 0 → i < length own
@@ -165,7 +167,7 @@ module _ (own : List ℕ) (need left : List Bool) (spare lanes : List ℕ) (n i 
       all = one_all;
     }
 
-  pub took_more : (taken : Bool) (v c : ℕ) → taken ≡ get_or left (get_or own i 0) false → v ≡ cond taken (get_or own i 0) 0 → c ≡ bit (not taken)
+  pub took_more : (taken : Bool) (v c : ℕ) → taken ≡ get_or left (get_or own i 0) false → v ≡ cond taken (get_or own i 0) 0 → c ≡ bool_byte (not taken)
       → Took own need (set left (get_or own i 0) false) (set spare n i) (set lanes i v) (n + c) (i + 1)
   took_more true v c t e f = let same : n + c ≡ n = omega arith in rw (e, same) (took_one (sym t))
   took_more false v c t e f = rw (e, f) (took_idle (sym t))
@@ -193,38 +195,30 @@ module _ (left : List Bool) where
   pub listed_none : (list : List ℕ) → Listed left list 0
   listed_none list = record { is = λ p l. absurd (omega arith) }
 
-  pub listed_more : (list : List ℕ) (k n c : ℕ) → length list ≡ net_entries → k < largest_net → n ≡ among k → c ≡ bit (get_or left (k + 1) false)
-      → Listed left list n → (n + c ≡ among (k + 1)) × Listed left (set list n (k + 1)) (n + c)
-  listed_more list k n c len l r e h = (omega (arith, next), record { is = λ p b. go p b (ℕ_discrete p n) })
+  pub listed_more : (list : List ℕ) (m n c : ℕ) → length list ≡ net_entries → 1 ≤ m → m < net_entries → n ≡ among (m - 1)
+      → c ≡ bool_byte (get_or left m false) → Listed left list n → Listed left (set list n m) (n + c)
+  listed_more list m n c len l r e f h = record { is = λ p b. go p b (ℕ_discrete p n) }
     where
-      next : among (k + 1) ≡ among k + bit (get_or left (k + 1) false)
-      next = sum_more (λ m. bit (get_or left m false)) k
+      is_bit : c ≡ bit (get_or left m false)
+      is_bit = f ∙ byte_bit (get_or left m false)
+
+      now : get_or left m false ≡ true → among m ≡ suc n
+      now t =
+          let here : m + 1 - 1 ≡ m = omega arith in
+          let more : n + c ≡ among m = counted_more (λ k. get_or left k false) m n c l e f ∙ ap among here in
+          omega (arith, more, is_bit, ap bit t)
 
       go : (p : ℕ) → p < n + c → Dec (p ≡ n)
-          → In (get_or (set list n (k + 1)) p 0) largest_net × (get_or left (get_or (set list n (k + 1)) p 0) false ≡ true) ×
-          (among (get_or (set list n (k + 1)) p 0) ≡ suc p)
-      go p b (yes q) = split (get_or left (k + 1) false)
-          (λ t. rw (q, get_or-set_same list n (k + 1) 0 (omega (arith, count_le (λ m. get_or left m false) k))) (omega arith, t, omega (arith, next, ap bit t)))
-          (λ f. absurd (omega (arith, ap bit f)))
+          → In (get_or (set list n m) p 0) largest_net × (get_or left (get_or (set list n m) p 0) false ≡ true) ×
+          (among (get_or (set list n m) p 0) ≡ suc p)
+      go p b (yes q) = split (get_or left m false)
+          (λ t. rw (q, get_or-set_same list n m 0 (omega (arith, counted_few (λ k. get_or left k false) m n e))) (omega arith, t, now t))
+          (λ t. absurd (omega (arith, is_bit, ap bit t)))
       go p b (no q) =
-          rw (get_or-set_other list n p (k + 1) 0 q)
-          (h.is p (split (get_or left (k + 1) false) (λ t. omega (arith, ap bit t)) (λ f. omega (arith, ap bit f))))
+          rw (get_or-set_other list n p m 0 q)
+          (h.is p (split (get_or left m false) (λ t. omega (arith, is_bit, ap bit t)) (λ t. omega (arith, is_bit, ap bit t))))
 
 -- ---- the second pass
-
-pub spread_none : (placed spare list : List ℕ) → length placed ≡ most_lanes → Spread placed spare list 0 placed
-spread_none placed spare list len = record { long = len; put = λ p l. absurd (omega arith); kept = λ i f. refl }
-
-pub spread_more : (placed spare list lanes : List ℕ) (n p : ℕ) → Distinct spare n → p < n → Spread placed spare list p lanes
-    → Spread placed spare list (p + 1) (set lanes (get_or spare p 0) (get_or list p 0))
-spread_more placed spare list lanes n p d l h = record {
-  long = simp length-set h.long;
-  put = λ q b. by_cases (ℕ_discrete q p)
-      (λ e. rw e (get_or-set_same lanes (get_or spare p 0) (get_or list p 0) 0 (omega (arith, h.long, d.inside p l))))
-      (λ e. get_or-set_other lanes (get_or spare p 0) (get_or spare q 0) (get_or list p 0) 0 (λ f. omega (arith, d.apart q p (omega (arith, e)) l)) ∙ h.put q
-      (omega (arith, e)));
-  kept = λ i f. get_or-set_other lanes (get_or spare p 0) i (get_or list p 0) 0 (λ e. f p (omega arith) (sym e)) ∙ h.kept i (λ q b. f q (omega arith));
-}
 
 -- a number is among the first n of a list, or is not
 find : (xs : List ℕ) (n v : ℕ) → ((p : ℕ) × (p < n) × (get_or xs p 0 ≡ v)) ⊎ ((p : ℕ) → p < n → get_or xs p 0 ≢ v)

@@ -2,42 +2,33 @@
 // and place of the wiring, and 1 where the bytes outside it were kept.
 #![tactic(auto)]
 
-ghost use Rattle.std.specs.Prelude.{◌≤◌, length, IfOk};
+ghost use Rattle.std.specs.Prelude.{◌≤◌, length};
 
-use records::{STAIN, field, refusal_fields};
+use records::{Records, STAIN, field, refusal_fields};
 use router::LayAnswer;
 use std::io;
-use terms::{Refusal, wide};
+use terms::Refusal;
 
 // The bytes of a record after its ticket.
 const FIELDS: usize = 3;
 
 const LONGEST_BUFFER: usize = 65536;
 
-fn flag(x: bool) -> usize {
-    if x { 1 } else { 0 }
-}
-
 // Whether no byte from `from` on was written.
-fn is_kept(buffer: &[u8], from: usize) -> bool {
-    let mut i = from;
-    while i < buffer.len() {
-        if buffer[i] != STAIN {
-            return false;
-        }
-        i += 1;
-    }
-    true
+fn is_kept(buffer: &[u8], from: usize) -> bool
+    requires { from ≤ length buffer.now }
+{
+    buffer[from..].iter().all(|b| *b == STAIN)
 }
 
 fn show_answer(rt: &impl Print, a: LayAnswer) -> io::Result<()> {
     refusal_fields(rt, a.refusal)?;
-    field(rt, wide(a.kind))?;
+    field(rt, usize::from(a.kind))?;
     field(rt, grid::column_count(a.n))?;
     field(rt, grid::track_count(a.w))?;
     field(rt, grid::layer_count(a.k))?;
-    field(rt, flag(a.first))?;
-    field(rt, wide(a.nets))?;
+    field(rt, usize::from(a.first))?;
+    field(rt, usize::from(a.nets))?;
     field(rt, a.across)?;
     field(rt, a.up)?;
     field(rt, grid::layer_count(a.floor))
@@ -77,43 +68,7 @@ fn show(rt: &impl Print, ticket: &[u8], wiring: &mut [u8], scratch: &mut [u8]) -
     let size = taken(a, wiring.len());
     show_answer(rt, a)?;
     refusal_fields(rt, verdict(ticket, a, wiring, size, scratch))?;
-    records::last_field(rt, flag(is_kept(wiring, size)))
-}
-
-// Shows the record that starts at `at`, and answers where it ends: at `at` itself where it is not whole.
-fn one(
-    rt: &impl Print,
-    s: &[u8],
-    at: usize,
-    wiring: &mut [u8],
-    scratch: &mut [u8],
-) -> io::Result<usize>
-    requires { at ≤ length s.now }
-    ensures { IfOk result (λ next. next ≤ length s.now) }
-{
-    let r = records::record_at(s, at, FIELDS);
-    let from = r.from;
-    let end = r.end;
-    if end <= at {
-        return Ok(at);
-    }
-    let size = records::triple(s, end);
-    if wiring.len() < size {
-        return Ok(at);
-    }
-    show(rt, &s[from..end], &mut wiring[..size], scratch)?;
-    Ok(end + FIELDS)
-}
-
-fn all(rt: &impl Print, s: &[u8], wiring: &mut [u8], scratch: &mut [u8]) -> io::Result<()> {
-    let mut at = 0;
-    loop {
-        let next = one(rt, s, at, wiring, scratch)?;
-        if next <= at {
-            return Ok(());
-        }
-        at = next;
-    }
+    records::last_field(rt, usize::from(is_kept(wiring, size)))
 }
 
 fn main(rt: HostRuntime) -> io::Result<()> {
@@ -121,5 +76,13 @@ fn main(rt: HostRuntime) -> io::Result<()> {
     let mut wiring = [0u8; LONGEST_BUFFER];
     let mut scratch = [0u8; LONGEST_BUFFER];
     let n = records::read_full(&mut rt.stdin(), &mut input)?;
-    all(&rt, &input[..n], &mut wiring, &mut scratch)
+    for record in Records::<FIELDS>::new(&input[..n]) {
+        let fields = record.fields;
+        let size = records::triple(fields, 0);
+        if wiring.len() < size {
+            return Ok(());
+        }
+        show(&rt, record.ticket, &mut wiring[..size], &mut scratch)?;
+    }
+    Ok(())
 }

@@ -1,4 +1,4 @@
 pub mod Tabling
-pub mod FourCounts
+pub mod Passing
 pub mod Totals
 pub mod Reach

@@ -9,11 +9,13 @@
 --   SpansOf q t                the table of a problem's spans
 --   Spanned q ..               the lists of it that tell a span: first and last column, and the pins on each side
 --   pin_sum a b c d m          net m's pins, from the lists of how many each side holds
+--   pins_of_net t m            net m's pins, by the table of spans
+--   net_or_none m              net m, and None for 0
 --   low_of, high_of            the least and the greatest place along the grid, from the first and the last between its ends and from how
 --                              many pins are on the near side, at 0, and on the far side, at `past`
 --   span_from .. m n           net m's span, read from these lists
 --   Numbered side              the side holds nets or 0
-use Rattle.std.specs.Prelude.{ℕ, zero, suc, ◌+◌, ◌≤◌, ◌≡◌, Bool, cond, ◌||◌, List, eqb, length, get_or, replicate}
+use Rattle.std.specs.Prelude.{ℕ, zero, suc, ◌+◌, ◌≤◌, ◌≡◌, Bool, cond, ◌||◌, List, eqb, length, get_or, replicate, Option, Some, None}
 use Rattle.counting.specs.Counting.{In, count, least}
 use Rattle.terms.specs.Limits.{largest_net, net_entries}
 use Rattle.terms.specs.Kinds.{north, south, west, east}
@@ -68,6 +70,13 @@ pub record Spanned (q : Problem) (first last norths souths wests easts : List �
 
 abbrev pub pin_sum : List ℕ → List ℕ → List ℕ → List ℕ → ℕ → ℕ
 pin_sum a b c d m = get_or a m 0 + get_or b m 0 + get_or c m 0 + get_or d m 0
+
+abbrev pub pins_of_net : Spans → ℕ → ℕ
+pins_of_net t = pin_sum t.columns.one t.columns.two t.tracks.one t.tracks.two
+
+abbrev pub net_or_none : ℕ → Option ℕ
+net_or_none zero = None
+net_or_none (suc m) = Some (suc m)
 
 abbrev pub low_of : ℕ → ℕ → ℕ → ℕ → ℕ
 low_of first near far past = cond (eqb near 0) (cond (eqb first 0) (cond (eqb far 0) 0 past) first) 0

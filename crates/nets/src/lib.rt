@@ -1,5 +1,5 @@
 // The nets' spans: what the pins tell of each net, counted once for a problem in one pass over its pins. The table is kept figure by
-// figure, so that many nets are treated at once; `span_at` gives a net's span. All functions here are for our own crates.
+// figure, so that many nets are treated at once; `Spans::span` gives a net's span. All functions here are for our own crates.
 #![tactic(auto)]
 
 ghost use Rattle.std.specs.Prelude.{◌≡◌, cond, false, ◌+◌, ◌*◌, ◌≤◌, ◌<◌, eqb, leb, get_or};
@@ -9,14 +9,14 @@ ghost use Rattle.grid.specs.Legal.{entry};
 ghost use Rattle.problem.specs.declared.Problem.{Problem};
 ghost use Rattle.problem.specs.Problem.{pins_in, shape_of, Good};
 ghost use Rattle.nets.specs.Spans.{SpanOf};
-ghost use Rattle.nets.specs.Tables.{Spanned, Numbered, Tabled, blank_table, blank_spans, pin_sum, low_of, high_of, span_from};
+ghost use Rattle.nets.specs.Tables.{Spanned, Numbered, Tabled, blank_table, blank_spans, low_of, high_of, span_from};
+ghost use Rattle.nets.specs.Tables.{pins_of_net, net_or_none};
 
-use terms::{
-    LARGEST_NET, LONGEST_SIDE, NET_ENTRIES, both, either, larger_byte, smaller_byte, wide,
-};
+use problem::Pins;
+use terms::{LONGEST_SIDE, NET_ENTRIES};
 
 // A net's leftmost and rightmost column, and how many pins it has on each side.
-#[derive(Clone, Copy)]
+#[derive(Clone, Copy, Default)]
 pub struct Span {
     pub net: u8,
     pub left: u8,
@@ -51,51 +51,20 @@ pub fn choose(test: bool, a: u8, b: u8) -> u8
     if test { a } else { b }
 }
 
-// The least place along the grid of a net's pins.
+// The least place along the grid of a net's pins. Three choices of values, and no way out between them: many nets are treated at once.
 pub fn low_of(first: u8, near: u8, far: u8, past: u8) -> u8
     ensures { result ≡ low_of first near far past }
 {
-    let beyond = choose(far == 0, 0, past);
-    let from = choose(first == 0, beyond, first);
-    choose(near == 0, from, 0)
+    let beyond = if far == 0 { 0 } else { past };
+    let from = if first == 0 { beyond } else { first };
+    if near == 0 { from } else { 0 }
 }
 
 // The greatest.
 pub fn high_of(last: u8, far: u8, past: u8) -> u8
     ensures { result ≡ high_of last far past }
 {
-    choose(far == 0, last, past)
-}
-
-// Net m's span, in a problem of length n.
-pub fn span_at<'a>(
-    first: &'a [u8; NET_ENTRIES],
-    last: &'a [u8; NET_ENTRIES],
-    norths: &'a [u8; NET_ENTRIES],
-    souths: &'a [u8; NET_ENTRIES],
-    wests: &'a [u8; NET_ENTRIES],
-    easts: &'a [u8; NET_ENTRIES],
-    m: usize,
-    n: usize,
-) -> Span
-    requires { (m ≤ largest_net) × (n ≤ longest_side) }
-    ensures reads { result ≡ span_from first.now last.now norths.now souths.now
-        wests.now easts.now m n }
-    ensures exact { (q : Problem) → Good q → n ≡ q.n.0 → Spanned q first.now last.now norths.now
-        souths.now wests.now easts.now → In m largest_net → SpanOf (shape_of q) (pins_in q.pins) m result }
-{
-    let past = n as u8 + 1;
-    let left = low_of(first[m], wests[m], easts[m], past);
-    let right = high_of(last[m], easts[m], past);
-    Span {
-        net: m as u8,
-        left,
-        right,
-        north: norths[m],
-        south: souths[m],
-        west: wests[m],
-        east: easts[m],
-    }
+    if far == 0 { last } else { past }
 }
 
 // ---- the table
@@ -103,12 +72,11 @@ pub fn span_at<'a>(
 fn blank() -> PinTable
     ensures { result ≡ blank_table }
 {
-    let empty = [0u8; NET_ENTRIES];
     PinTable {
-        one: empty,
-        two: empty,
-        first: empty,
-        last: empty,
+        one: [0; NET_ENTRIES],
+        two: [0; NET_ENTRIES],
+        first: [0; NET_ENTRIES],
+        last: [0; NET_ENTRIES],
     }
 }
 
@@ -116,9 +84,10 @@ fn blank() -> PinTable
 pub fn no_spans() -> Spans
     ensures { result ≡ blank_spans }
 {
-    let columns = blank();
-    let tracks = blank();
-    Spans { columns, tracks }
+    Spans {
+        columns: blank(),
+        tracks: blank(),
+    }
 }
 
 // A place's net, as the place of its entry in a table.
@@ -126,26 +95,33 @@ pub fn net_at(side: &[u8; LONGEST_SIDE], i: usize) -> usize
     requires { (i < longest_side) × Numbered side.now }
     ensures { (result ≡ get_or side.now i 0) × (result ≤ largest_net) }
 {
-    wide(side[i])
+    usize::from(side[i])
+}
+
+// A net's first place, once this one is met.
+fn first_of(first: u8, place: u8) -> u8
+    ensures { result ≡ cond (eqb first 0) place first }
+{
+    if first == 0 { place } else { first }
 }
 
 // What two sides of so many places tell. No branch depends on the nets: an empty place is entered at 0, which is cleared at the end.
-fn pin_table<'a>(a: &'a [u8; LONGEST_SIDE], b: &'a [u8; LONGEST_SIDE], places: usize) -> PinTable
+#[tactic(auto, using(crate::proofs::Tabling::cleared))]
+fn pin_table(a: &[u8; LONGEST_SIDE], b: &[u8; LONGEST_SIDE], places: usize) -> PinTable
     requires { (places ≤ longest_side) × Numbered a.now × Numbered b.now }
     ensures { Tabled (entry a.now) (entry b.now) places result }
 {
     let mut t = blank();
-    let mut i: usize = 0;
-    while i < places {
+    for i in 0..places {
         let m = net_at(a, i);
         let k = net_at(b, i);
-        i += 1;
-        t.one[m] = t.one[m] + 1;
-        t.two[k] = t.two[k] + 1;
-        t.first[m] = choose(t.first[m] == 0, i as u8, t.first[m]);
-        t.first[k] = choose(t.first[k] == 0, i as u8, t.first[k]);
-        t.last[m] = i as u8;
-        t.last[k] = i as u8;
+        let place = i as u8 + 1;
+        t.one[m] += 1;
+        t.two[k] += 1;
+        t.first[m] = first_of(t.first[m], place);
+        t.first[k] = first_of(t.first[k], place);
+        t.last[m] = place;
+        t.last[k] = place;
     }
     t.one[0] = 0;
     t.two[0] = 0;
@@ -154,139 +130,130 @@ fn pin_table<'a>(a: &'a [u8; LONGEST_SIDE], b: &'a [u8; LONGEST_SIDE], places: u
     t
 }
 
-// The spans of the nets of four sides.
-pub fn spans_of<'a>(
-    north: &'a [u8; LONGEST_SIDE],
-    south: &'a [u8; LONGEST_SIDE],
-    west: &'a [u8; LONGEST_SIDE],
-    east: &'a [u8; LONGEST_SIDE],
-    n: usize,
-    w: usize,
-) -> Spans
-    requires n_le_longest_side { (n ≤ longest_side) × (w ≤ longest_side) }
-    requires numbered { Numbered north.now × Numbered south.now × Numbered west.now × Numbered east.now }
-    ensures tabled { Tabled (entry north.now) (entry south.now) n result.columns }
-    ensures tabled_2 { Tabled (entry west.now) (entry east.now) w result.tracks }
-{
-    let columns = pin_table(north, south, n);
-    let tracks = pin_table(west, east, w);
-    Spans { columns, tracks }
-}
-
-// ---- what the counts of the four sides tell
-
-// Whether the four are 0, 0, 0 and 1 in some order. A sum of them could pass a byte.
-fn is_lone(a: u8, b: u8, c: u8, d: u8) -> bool
-    ensures { result ≡ eqb (a + b + c + d) 1 }
-{
-    let x = larger_byte(a, b);
-    let y = larger_byte(c, d);
-    let pairs = larger_byte(smaller_byte(a, b), smaller_byte(c, d));
-    let second = larger_byte(pairs, smaller_byte(x, y));
-    both(second == 0, larger_byte(x, y) == 1)
-}
-
-// Whether a net has one pin. It has no way out before the end, so that many nets are tested at once.
-fn has_lone<'a>(
-    a: &'a [u8; NET_ENTRIES],
-    b: &'a [u8; NET_ENTRIES],
-    c: &'a [u8; NET_ENTRIES],
-    d: &'a [u8; NET_ENTRIES],
-) -> bool
-    ensures { result ≡ false →
-        least (λ m. eqb (pin_sum a.now b.now c.now d.now m) 1) largest_net ≡ 0 }
-{
-    let mut some = false;
-    let mut m: usize = 0;
-    while m < LARGEST_NET {
-        m += 1;
-        some = either(some, is_lone(a[m], b[m], c[m], d[m]));
+impl Spans {
+    // The spans of the nets of these pins, in a problem of n columns and w tracks.
+    pub fn of(pins: &Pins, n: usize, w: usize) -> Spans
+        requires n_le_longest_side { (n ≤ longest_side) × (w ≤ longest_side) }
+        requires numbered { Numbered pins.now.north × Numbered pins.now.south × Numbered pins.now.west × Numbered pins.now.east }
+        ensures tabled { Tabled (entry pins.now.north) (entry pins.now.south) n result.columns }
+        ensures tabled_2 { Tabled (entry pins.now.west) (entry pins.now.east) w result.tracks }
+    {
+        let columns = pin_table(&pins.north, &pins.south, n);
+        let tracks = pin_table(&pins.west, &pins.east, w);
+        Spans { columns, tracks }
     }
-    some
-}
 
-// The smallest net with one pin, 0 where there is none, net by net.
-fn lone<'a>(
-    a: &'a [u8; NET_ENTRIES],
-    b: &'a [u8; NET_ENTRIES],
-    c: &'a [u8; NET_ENTRIES],
-    d: &'a [u8; NET_ENTRIES],
-) -> usize
-    ensures { result ≡ least (λ m. eqb (pin_sum a.now b.now c.now d.now m) 1) largest_net }
-{
-    let mut m: usize = 0;
-    while m < LARGEST_NET {
-        m += 1;
-        if is_lone(a[m], b[m], c[m], d[m]) {
-            return m;
+    // Net m's span, in a problem of length n.
+    #[tactic(auto, using(crate::proofs::Reach::span_exact))]
+    pub fn span(&self, m: usize, n: usize) -> Span
+        requires { (m ≤ largest_net) × (n ≤ longest_side) }
+        ensures reads { result ≡ span_from self.now.columns.first self.now.columns.last self.now.columns.one self.now.columns.two
+            self.now.tracks.one self.now.tracks.two m n }
+        ensures exact { (q : Problem) → Good q → n ≡ q.n.0 → Spanned q self.now.columns.first self.now.columns.last
+            self.now.columns.one self.now.columns.two self.now.tracks.one self.now.tracks.two → In m largest_net
+            → SpanOf (shape_of q) (pins_in q.pins) m result }
+    {
+        let past = n as u8 + 1;
+        let west = self.tracks.one[m];
+        let east = self.tracks.two[m];
+        Span {
+            net: m as u8,
+            left: low_of(self.columns.first[m], west, east, past),
+            right: high_of(self.columns.last[m], east, past),
+            north: self.columns.one[m],
+            south: self.columns.two[m],
+            west,
+            east,
         }
     }
-    0
-}
 
-// The same: a test of all nets at once, and net by net only where one is there.
-pub fn lone_net<'a>(
-    a: &'a [u8; NET_ENTRIES],
-    b: &'a [u8; NET_ENTRIES],
-    c: &'a [u8; NET_ENTRIES],
-    d: &'a [u8; NET_ENTRIES],
-) -> usize
-    ensures { result ≡ least (λ m. eqb (pin_sum a.now b.now c.now d.now m) 1) largest_net }
-{
-    if has_lone(a, b, c, d) {
-        lone(a, b, c, d)
-    } else {
-        0
+    // ---- what the counts of the four sides tell
+
+    // How many pins net m has, in a width that holds it.
+    fn pins_of_net(&self, m: usize) -> usize
+        requires { m ≤ largest_net }
+        ensures { (result ≡ pins_of_net self.now m) × (result < 4 * byte_values) }
+    {
+        usize::from(self.columns.one[m])
+            + usize::from(self.columns.two[m])
+            + usize::from(self.tracks.one[m])
+            + usize::from(self.tracks.two[m])
     }
-}
 
-// 1 for a net that has a pin.
-fn one_if_any(a: u8, b: u8, c: u8, d: u8) -> u8
-    ensures { result ≡ bit (leb 1 (a + b + c + d)) }
-{
-    let most = larger_byte(larger_byte(a, b), larger_byte(c, d));
-    if 1 <= most { 1 } else { 0 }
-}
-
-// How many nets have pins.
-pub fn net_count<'a>(
-    a: &'a [u8; NET_ENTRIES],
-    b: &'a [u8; NET_ENTRIES],
-    c: &'a [u8; NET_ENTRIES],
-    d: &'a [u8; NET_ENTRIES],
-) -> u8
-    ensures { result ≡ count (λ m. leb 1 (pin_sum a.now b.now c.now d.now m)) largest_net }
-{
-    let mut total: u8 = 0;
-    let mut m: usize = 0;
-    while m < LARGEST_NET {
-        m += 1;
-        total += one_if_any(a[m], b[m], c[m], d[m]);
+    // Whether net m has a pin, in bytes, which hold no sum of four counts.
+    fn has_pins(&self, m: usize) -> bool
+        requires { m ≤ largest_net }
+        ensures { result ≡ leb 1 (pins_of_net self.now m) }
+    {
+        let along = self.columns.one[m].max(self.columns.two[m]);
+        let ends = self.tracks.one[m].max(self.tracks.two[m]);
+        1 <= along.max(ends)
     }
-    total
-}
 
-// The sum of the four, in a width that holds it.
-fn all_four(a: u8, b: u8, c: u8, d: u8) -> usize
-    ensures { (result ≡ a + b + c + d) × (result < 4 * byte_values) }
-{
-    a as usize + b as usize + c as usize + d as usize
-}
-
-// How many pins there are.
-pub fn pin_total<'a>(
-    a: &'a [u8; NET_ENTRIES],
-    b: &'a [u8; NET_ENTRIES],
-    c: &'a [u8; NET_ENTRIES],
-    d: &'a [u8; NET_ENTRIES],
-) -> usize
-    ensures { result ≡ sum (pin_sum a.now b.now c.now d.now) largest_net }
-{
-    let mut total: usize = 0;
-    let mut m: usize = 0;
-    while m < LARGEST_NET {
-        m += 1;
-        total += all_four(a[m], b[m], c[m], d[m]);
+    // Whether net m has one pin: the greatest of the four is 1, and all beside it are 0. In bytes too.
+    fn is_lone(&self, m: usize) -> bool
+        requires { m ≤ largest_net }
+        ensures { result ≡ eqb (pins_of_net self.now m) 1 }
+    {
+        let a = self.columns.one[m];
+        let b = self.columns.two[m];
+        let c = self.tracks.one[m];
+        let d = self.tracks.two[m];
+        let x = a.max(b);
+        let y = c.max(d);
+        let second = a.min(b).max(c.min(d)).max(x.min(y));
+        (second == 0) & (x.max(y) == 1)
     }
-    total
+
+    // Whether a net has one pin. It has no way out before the end, so that many nets are tested at once.
+    #[tactic(auto, using(counting::proofs::Leasts::least_start, crate::proofs::Passing::least_passed))]
+    fn has_lone(&self) -> bool
+        ensures { result ≡ false → least (λ m. eqb (pins_of_net self.now m) 1) largest_net ≡ 0 }
+    {
+        let mut some = false;
+        for m in 1..NET_ENTRIES {
+            some |= self.is_lone(m);
+        }
+        some
+    }
+
+    // The smallest net with one pin. All nets are tested at once, and net by net only where one is there.
+    #[tactic(auto, using(counting::proofs::Leasts::least_start, crate::proofs::Passing::least_passed))]
+    pub fn lone_net(&self) -> Option<usize>
+        ensures { result ≡ net_or_none (least (λ m. eqb (pins_of_net self.now m) 1) largest_net) }
+    {
+        if !self.has_lone() {
+            return None;
+        }
+        for m in 1..NET_ENTRIES {
+            if self.is_lone(m) {
+                return Some(m);
+            }
+        }
+        None
+    }
+
+    // How many nets have pins.
+    #[tactic(auto, using(counting::proofs::Sums::sum_none, crate::proofs::Passing::sum_passed))]
+    pub fn net_count(&self) -> u8
+        ensures { result ≡ count (λ m. leb 1 (pins_of_net self.now m)) largest_net }
+    {
+        let mut total = 0;
+        for m in 1..NET_ENTRIES {
+            total += u8::from(self.has_pins(m));
+        }
+        total
+    }
+
+    // How many pins there are.
+    #[tactic(auto, using(counting::proofs::Sums::sum_none, crate::proofs::Passing::sum_passed))]
+    pub fn pin_count(&self) -> usize
+        ensures { result ≡ sum (pins_of_net self.now) largest_net }
+    {
+        let mut total = 0;
+        for m in 1..NET_ENTRIES {
+            total += self.pins_of_net(m);
+        }
+        total
+    }
 }

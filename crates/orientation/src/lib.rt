@@ -10,14 +10,35 @@ ghost use Rattle.grid.specs.Legal.{entry};
 ghost use Rattle.orientation.specs.Lookup.{diagonal, mirror_side, mirror_order, own_place, by_side};
 ghost use Rattle.orientation.specs.Code.{side_named, orientation_of, LooksUp};
 
-use terms::NET_ENTRIES;
-
 #[derive(Clone, Copy)]
 pub enum Side {
     North,
     South,
     West,
     East,
+}
+
+// One value for each side.
+#[derive(Clone, Copy)]
+pub struct Sides<T> {
+    pub north: T,
+    pub south: T,
+    pub west: T,
+    pub east: T,
+}
+
+impl<T: Copy> Sides<T> {
+    // The value of a side.
+    pub fn on(self, side: Side) -> T
+        ensures { result ≡ by_side self.north self.south self.west self.east (side_named side) }
+    {
+        match side {
+            Side::North => self.north,
+            Side::South => self.south,
+            Side::West => self.west,
+            Side::East => self.east,
+        }
+    }
 }
 
 // A box may be turned, its columns reversed and its tracks reversed.
@@ -47,12 +68,6 @@ fn turn_side(s: Side) -> Side
     }
 }
 
-fn turn_side_if(turned: bool, s: Side) -> Side
-    ensures { side_named result ≡ cond turned (diagonal (side_named s)) (side_named s) }
-{
-    if turned { turn_side(s) } else { s }
-}
-
 // The side that s is in the mirror: reversed columns exchange west and east, reversed tracks south and north.
 fn mirror_side(columns: bool, tracks: bool, s: Side) -> Side
     ensures { side_named result ≡ mirror_side columns tracks (side_named s) }
@@ -70,10 +85,8 @@ fn is_reversed(columns: bool, tracks: bool, s: Side) -> bool
     ensures { result ≡ mirror_order columns tracks (side_named s) }
 {
     match s {
-        Side::North => columns,
-        Side::South => columns,
-        Side::West => tracks,
-        Side::East => tracks,
+        Side::North | Side::South => columns,
+        Side::West | Side::East => tracks,
     }
 }
 
@@ -81,12 +94,10 @@ fn is_reversed(columns: bool, tracks: bool, s: Side) -> bool
 pub fn own_side(o: Orientation, side: Side) -> OwnSide
     ensures { LooksUp (orientation_of o) (side_named side) (side_named result.side) result.reversed }
 {
-    let s = turn_side_if(o.turned, side);
-    let own = mirror_side(o.columns_reversed, o.tracks_reversed, s);
-    let reversed = is_reversed(o.columns_reversed, o.tracks_reversed, s);
+    let s = if o.turned { turn_side(side) } else { side };
     OwnSide {
-        side: own,
-        reversed,
+        side: mirror_side(o.columns_reversed, o.tracks_reversed, s),
+        reversed: is_reversed(o.columns_reversed, o.tracks_reversed, s),
     }
 }
 
@@ -103,8 +114,7 @@ pub fn pin_at(own: &[u8], reversed: bool, place: usize) -> u8
     requires { (length own.now ≤ longest_side) × In place (length own.now) }
     ensures { result ≡ entry own.now (own_place reversed (length own.now) place) }
 {
-    let at = own_place(reversed, own.len(), place) - 1;
-    own[at]
+    own[own_place(reversed, own.len(), place) - 1]
 }
 
 // The moved box's pin at the end of the ticket's line, counted from 1: a column that ends at north or south, or a track at west or east.
@@ -112,46 +122,5 @@ pub fn pin_on_line(own: &[u8], reversed: bool, line: usize) -> u8
     requires { (length own.now ≤ longest_side) × In line (length own.now) }
     ensures { result ≡ entry own.now line }
 {
-    let place = own_place(reversed, own.len(), line);
-    pin_at(own, reversed, place)
-}
-
-// The ticket's pins of a side, of these four.
-pub fn pins_of<'a>(
-    own: OwnSide,
-    north: &'a [u8],
-    south: &'a [u8],
-    west: &'a [u8],
-    east: &'a [u8],
-) -> &'a [u8]
-    ensures { result.now ≡ by_side north.now south.now west.now east.now
-        (side_named own.side) }
-{
-    let s = own.side;
-    match s {
-        Side::North => north,
-        Side::South => south,
-        Side::West => west,
-        Side::East => east,
-    }
-}
-
-// The counts of a side, of these four.
-pub fn counts_of<'a>(
-    own: OwnSide,
-    norths: &'a [u8; NET_ENTRIES],
-    souths: &'a [u8; NET_ENTRIES],
-    wests: &'a [u8; NET_ENTRIES],
-    easts: &'a [u8; NET_ENTRIES],
-) -> &'a [u8; NET_ENTRIES]
-    ensures { result.now ≡ by_side norths.now souths.now wests.now easts.now
-        (side_named own.side) }
-{
-    let s = own.side;
-    match s {
-        Side::North => norths,
-        Side::South => souths,
-        Side::West => wests,
-        Side::East => easts,
-    }
+    pin_at(own, reversed, own_place(reversed, own.len(), line))
 }

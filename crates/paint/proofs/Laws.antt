@@ -5,18 +5,20 @@ use mathlib.Core.Logic.{◌⊎◌, inl, inr, ⊎_elim, by_cases}
 use mathlib.Core.List.{List}
 use native.Mathlib.Omega.{arith}
 use native.Mathlib.Decide.{ℕ_discrete, dec_lt}
-use native.Mathlib.Nat.{zero-mul, add-sub_cancel_left, mul-one, suc-mul, mul-add, add-mul, mul_assoc, mul_comm, mul_left_comm, mul-le-mul_right}
-use native.Mathlib.Nat.{lt_of_mul-lt-mul_right, le-mul_of_pos_right}
+use native.Mathlib.Nat.{zero-mul, one-mul, add-sub_cancel_left, mul-one, suc-mul, mul-add, add-mul, mul_assoc, mul_comm, mul_left_comm, mul-le-mul_right}
+use native.Mathlib.Nat.{le-mul_of_pos_right}
 use native.Mathlib.Numerals.{add-one}
 use mathlib.Core.List.{◌++◌}
-use lib.ListN.{length, get_or, set, take, drop, length-set, length-take, length-drop, length-append, get_or-append}
+use lib.ListN.{length, get_or, set, take, drop, length-set, length-drop, length-append, get_or-append}
 use lib.Seq.{get_or-set_same, get_or-set_other, get_or-append-add, get_or-take, get_or-drop, length-take-le}
 use borrow.Rule.Slice.PartMut.{mid_of, post_of, put_mid, same_len_mid, take_put, drop_put}
 use Rattle.grid.specs.Grid.{Grid, point, Inside}
 use Rattle.grid.specs.Legal.{Wiring, index, wiring_of}
 use Rattle.terms.specs.Limits.{longest_side}
 use Rattle.grid.proofs.Buffer.{index_is}
-use Rattle.paint.specs.Paint.{Striped, Painted, Block, Drawn}
+use Rattle.std.proofs.Math.ListN.{replicate}
+use Rattle.std.proofs.lemmas.List.{length-replicate, get_or-replicate}
+use Rattle.paint.specs.Paint.{Striped, Lined, Painted, Block, Drawn}
 
 -- ---- byte by byte: the first i bytes are f
 
@@ -47,16 +49,26 @@ upto_all {before} {after} {n} {f} h u = record { long = u.long; here = λ i j hi
 pub row_bytes : {before after : List ℕ} {n : ℕ} {f : ℕ → ℕ → ℕ} → Striped before after n 1 f → (i : ℕ) → i < n → get_or after i 0 ≡ f i 0
 row_bytes {after = after} {n = n} s i h = ap (λ (u : ℕ). get_or after u 0) (omega (arith, zero-mul n)) ∙ s.here i 0 h (omega arith)
 
--- a row of m bytes is m rows of one byte
-pub bytes_rows : {before after : List ℕ} {n k m : ℕ} {v : ℕ → ℕ} {f : ℕ → ℕ → ℕ} → n ≡ 1 → k ≡ m → ((j : ℕ) → v j ≡ f 0 j)
-    → Striped before after k 1 (λ i j. v i) → Striped before after n m f
-bytes_rows {after = after} {n = n} {f = f} one size same s = record {
+-- the place of a byte in the first row
+first_row : (z i size : ℕ) → z < 1 → z * size + i ≡ i
+first_row z i size h = let e : z * size ≡ 0 * size = ap (λ (u : ℕ). u * size) (omega arith) in omega (arith, zero-mul size)
+
+-- bytes one by one are a row, and rows of one byte
+pub lined_row : {before after : List ℕ} {value : ℕ → ℕ → Type 0} → length after ≡ length before
+    → ((i : ℕ) → i < length before → value i (get_or after i 0)) → Lined before after (length before) 1 (λ i j. value i)
+lined_row {before} {after} {value} long here = record {
+  long = long;
+  here = λ i j hi hj. subst (λ (u : ℕ). value i (get_or after u 0)) (sym (first_row j i _ hj)) (here i hi);
+}
+
+pub lined_bytes : {before after : List ℕ} {n w : ℕ} {value : ℕ → ℕ → Type 0} → n ≡ 1 → length before ≡ n * w
+    → Lined before after (length before) 1 (λ i j. value i) → Lined before after n w (λ i j. value j)
+lined_bytes {before} {after} {n} {w} {value} one size s = record {
   long = s.long;
   here = λ i j hi hj.
-      let first : i ≡ 0 = omega arith in
+      let wide : n * w ≡ w = ap (λ (u : ℕ). u * w) one ∙ one-mul w in
       let place : j * n ≡ j = ap (λ (u : ℕ). j * u) one ∙ mul-one j in
-      ap (λ (u : ℕ). get_or after u 0) (omega (arith, first, place)) ∙ row_bytes s j (omega arith) ∙ same j
-      ∙ sym (ap (λ (u : ℕ). f u j) first);
+      subst (λ (u : ℕ). value j (get_or after u 0)) (first_row 0 j _ (omega arith) ∙ omega (arith, place)) (s.here j 0 (omega arith) (omega arith));
 }
 
 -- rows of as many bytes, with the same values
@@ -67,14 +79,10 @@ striped_as {before} {after} {m} {n} {w} {f} size same s = record {
   here = λ i j hi hj. ap (λ (u : ℕ). get_or after (j * u + i) 0) (sym size) ∙ s.here i j (omega arith) hj ∙ same i j hi hj;
 }
 
--- one row is its own copy
-pub one_row : {n w : ℕ} (part : List ℕ) → w ≡ 1 → Striped part part n w (λ i j. get_or part i 0)
-one_row {n} part one = record {
-  long = refl;
-  here = λ i j hi hj.
-      let e : j * n ≡ 0 * n = ap (λ (u : ℕ). u * n) (omega arith) in
-      ap (λ (u : ℕ). get_or part u 0) (omega (arith, zero-mul n));
-}
+-- where the values are as f says
+pub lined_striped : {before after : List ℕ} {n w : ℕ} {value : ℕ → ℕ → ℕ → Type 0} {f : ℕ → ℕ → ℕ} → ((i j v : ℕ) → value i j v → v ≡ f i j)
+    → Lined before after n w value → Striped before after n w f
+lined_striped same s = record { long = s.long; here = λ i j hi hj. same i j _ (s.here i j hi hj) }
 
 -- ---- the first n bytes are lent, painted as a row and handed back
 
@@ -159,93 +167,86 @@ put_row {from} {n} {k} {f} xs ys size fits s =
 pub next_row : (from n j : ℕ) → from ≡ j * n → from + n ≡ (j + 1) * n
 next_row from n j e = rw add-one (omega (arith, suc-mul j n))
 
--- ---- row by row: of w rows of n bytes those above row j are f, and row j starts at `from`
-
-pub record Above (before now : List ℕ) (n w j from : ℕ) (f : ℕ → ℕ → ℕ) : Type 0 where
-  pub start : from ≡ j * n
-  pub size : length before ≡ n * w
-  pub within : j ≤ w
-  pub rows : Striped before now n j f
-
-pub above_none : {before : List ℕ} {n w : ℕ} {f : ℕ → ℕ → ℕ} → length before ≡ n * w → Above before before n w 0 0 f
-above_none {n = n} size = record {
-  start = omega (arith, zero-mul n);
-  size = size;
-  within = omega arith;
-  rows = record { long = refl; here = λ i j h k. absurd (omega arith) };
-}
-
-pub above_all : {before now : List ℕ} {n w j from : ℕ} {f : ℕ → ℕ → ℕ} → w ≤ j → Above before now n w j from f → Striped before now n w f
-above_all h a = record { long = a.rows.long; here = λ i k hi hk. a.rows.here i k hi (omega arith) }
-
-pub above_within : {before now : List ℕ} {n w j from : ℕ} {f : ℕ → ℕ → ℕ} → Above before now n w j from f → from ≤ length before
-above_within {n = n} {w = w} a = omega (arith, mul-le-mul_right n a.within, mul_comm w n, a)
-
--- a row within w rows is within the bytes, and the other way
-pub above_fits : {before now : List ℕ} {n w j from : ℕ} {f : ℕ → ℕ → ℕ} → j < w → Above before now n w j from f → from + n ≤ length before
-above_fits {n = n} {w = w} {j = j} h a = omega (arith, row_in n w j h, a)
-
-pub above_left : {before now : List ℕ} {n w j from : ℕ} {f : ℕ → ℕ → ℕ} → from < length before → Above before now n w j from f → j < w
-above_left {n = n} {w = w} h a = lt_of_mul-lt-mul_right n (omega (arith, mul_comm w n, a))
+-- ---- row by row: of the rows of n bytes those above row j are painted
 
 -- row j is the first n of m bytes that are written at its start
-pub above_step : {before now : List ℕ} {n w j from : ℕ} {f g : ℕ → ℕ → ℕ} (m : ℕ) (ys : List ℕ) → n ≤ m → from + m ≤ length before → j < w
-    → ((i : ℕ) → i < n → g i 0 ≡ f i j) → Above before now n w j from f
-    → Striped (mid_of from (from + m - from) now) ys (length (mid_of from (from + m - from) now)) 1 g
-    → Above before (put_mid from (from + m - from) now ys) n w (j + 1) (from + n) f
-above_step {before} {now} {n} {w} {j} {from} {f} {g} m ys wide fits h same a s = record {
-  start = next_row from n j a.start;
-  size = a.size;
-  within = omega arith;
-  rows = record {
-    long = p.long ∙ a.rows.long;
-    here = λ i k hi hk. by_cases (ℕ_discrete k j)
-        (λ e. rw e (ap (λ (u : ℕ). get_or after u 0) (omega (arith, zero-mul m, a.start)) ∙ p.here i 0 (omega arith) (omega arith) ∙ same i hi))
-        (λ ne. p.others (k * n + i) (inl (omega (arith, inside n j i k hi (omega arith), mul_comm n j, a.start))) ∙ a.rows.here i k hi (omega arith));
-  };
+pub lined_next : {before now : List ℕ} {n j : ℕ} {value : ℕ → ℕ → ℕ → Type 0} (m : ℕ) (ys : List ℕ) → n ≤ m → j * n + m ≤ length before
+    → length ys ≡ m → ((i : ℕ) → i < n → value i j (get_or ys i 0)) → Lined before now n j value
+    → Lined before (put_mid (j * n) (j * n + m - j * n) now ys) n (j + 1) value
+lined_next {before} {now} {n} {j} {value} m ys wide fits many same p = record {
+  long = q.long ∙ p.long;
+  here = λ i k hi hk. by_cases (ℕ_discrete k j)
+      (λ e. subst (λ (u : ℕ). value i u (get_or after (u * n + i) 0)) (sym e)
+      (subst (λ (v : ℕ). value i j v) (sym (ap (λ (u : ℕ). get_or after (j * n + u) 0) (omega (arith, zero-mul m)) ∙ q.here i 0 (omega arith) (omega arith))) (same i hi)))
+      (λ ne. subst (λ (v : ℕ). value i k v) (sym (q.others (k * n + i) (inl (omega (arith, inside n j i k hi (omega arith), mul_comm n j)))))
+      (p.here i k hi (omega arith)));
 }
   where
     after : List ℕ
-    after = put_mid from (from + m - from) now ys
+    after = put_mid (j * n) (j * n + m - j * n) now ys
 
-    p : Painted now after from m 1 g
-    p = put_row now ys (add-sub_cancel_left from m) (omega (arith, a.rows.long)) s
+    q : Painted now after (j * n) m 1 (λ i z. get_or ys i 0)
+    q = put_row now ys (add-sub_cancel_left (j * n) m) (omega (arith, p.long)) (record {
+      long = many ∙ sym (mid_long (j * n) (j * n + m - j * n) now (omega (arith, p.long)) ∙ add-sub_cancel_left (j * n) m);
+      here = λ i z hi hz. ap (λ (u : ℕ). get_or ys u 0) (first_row z i _ hz);
+    })
 
--- the other m rows are lent, striped and handed back
-module _ {before now : List ℕ} {n w j from : ℕ} {f : ℕ → ℕ → ℕ} (m : ℕ) (all : j + m ≡ w) (a : Above before now n w j from f) where
-  rest_size : from + n * m ≡ length before
-  rest_size = let e : n * (j + m) ≡ n * w = ap (λ (u : ℕ). n * u) all in omega (arith, mul-add n j m, mul_comm j n, a)
+-- the same where these bytes are all v
+pub filled_next : {before now : List ℕ} {n j : ℕ} {value : ℕ → ℕ → ℕ → Type 0} (m v : ℕ) (ys : List ℕ) → n ≤ m → j * n + m ≤ length before
+    → ys ≡ replicate (length (mid_of (j * n) (j * n + m - j * n) now)) v → ((i : ℕ) → value i j v) → Lined before now n j value
+    → Lined before (put_mid (j * n) (j * n + m - j * n) now ys) n (j + 1) value
+filled_next {before} {now} {n} {j} {value} m v ys wide fits all same p =
+    lined_next m ys wide fits (ap length all ∙ length-replicate _ v ∙ many)
+    (λ i h. subst (λ (u : ℕ). value i j u) (sym (ap (λ (l : List ℕ). get_or l i 0) all ∙ get_or-replicate _ i v 0 (omega (arith, many)))) (same i)) p
+  where
+    many : length (mid_of (j * n) (j * n + m - j * n) now) ≡ m
+    many = mid_long (j * n) (j * n + m - j * n) now (omega (arith, p.long)) ∙ add-sub_cancel_left (j * n) m
 
-  pub rest_long : length (mid_of from (length before - from) now) ≡ n * m
-  rest_long = mid_long from (length before - from) now (omega (arith, rest_size, a.rows.long)) ∙ omega (arith, rest_size)
+-- a row with no fewer than 15 / n others after it has 16 bytes from its start on
+pub store_in : (n w j : ℕ) → 1 ≤ n → j < w - 15 / n → j * n + 16 ≤ n * w
+store_in n w j some h =
+    let below : j + (15 / n + 1) ≤ w = omega arith in
+    omega (arith, mul-le-mul_right n below, add-mul j (15 / n + 1) n, add-mul (15 / n) 1 n, mul_comm n (15 / n), mul_comm w n)
 
-  pub above_rest : {ys : List ℕ} → Striped (mid_of from (length before - from) now) ys n m (λ i z. f i (j + z))
-      → Striped before (put_mid from (length before - from) now ys) n w f
-  above_rest {ys} s = record {
-    long = p.long ∙ a.rows.long;
+-- ---- rows at the front and at the back of a part are lent, striped and handed back
+
+pub front_striped : {n w k : ℕ} {f : ℕ → ℕ → ℕ} {ys : List ℕ} (xs : List ℕ) → k ≡ n * w → k ≤ length xs → Striped (take k xs) ys n w f
+    → Striped xs (ys ++ drop k xs) n w f
+front_striped {n} {w} {k} {f} {ys} xs size fits s = record {
+  long = length-append ys (drop k xs) ∙ omega (arith, many, length-drop k xs);
+  here = λ i j hi hj. get_or-append ys (drop k xs) 0 (j * n + i) (omega (arith, inside n w i j hi hj, many)) ∙ s.here i j hi hj;
+}
+  where
+    many : length ys ≡ k
+    many = s.long ∙ length-take-le k xs fits
+
+-- the last m rows, which follow the first j
+module _ {before now : List ℕ} {n j from : ℕ} {f : ℕ → ℕ → ℕ} (w m : ℕ) (all : j + m ≡ w) (start : from ≡ j * n) (size : length before ≡ n * w)
+    (above : Striped before now n j f) where
+  back_size : from + n * m ≡ length now
+  back_size = let e : n * (j + m) ≡ n * w = ap (λ (u : ℕ). n * u) all in omega (arith, mul-add n j m, mul_comm j n, above.long)
+
+  pub back_long : length (mid_of from (length now - from) now) ≡ n * m
+  back_long = mid_long from (length now - from) now (omega (arith, back_size)) ∙ omega (arith, back_size)
+
+  pub back_striped : {ys : List ℕ} → Striped (mid_of from (length now - from) now) ys n m (λ i z. f i (j + z))
+      → Striped before (put_mid from (length now - from) now ys) n w f
+  back_striped {ys} s = record {
+    long = p.long ∙ above.long;
     here = λ i k hi hk. elim (dec_lt k j) [
-      | yes h ↦ p.others (k * n + i) (inl (omega (arith, inside n j i k hi h, mul_comm n j, a.start))) ∙ a.rows.here i k hi h
+      | yes h ↦ p.others (k * n + i) (inl (omega (arith, inside n j i k hi h, mul_comm n j, start))) ∙ above.here i k hi h
       | no h ↦
           let e : j + (k - j) ≡ k = omega arith in
           subst (λ (u : ℕ). get_or after (u * n + i) 0 ≡ f i u) e
-          (ap (λ (u : ℕ). get_or after u 0) (omega (arith, add-mul j (k - j) n, a.start)) ∙ p.here i (k - j) hi (omega arith))
+          (ap (λ (u : ℕ). get_or after u 0) (omega (arith, add-mul j (k - j) n, start)) ∙ p.here i (k - j) hi (omega arith))
     ];
   }
     where
       after : List ℕ
-      after = put_mid from (length before - from) now ys
+      after = put_mid from (length now - from) now ys
 
       p : Painted now after from n m (λ i z. f i (j + z))
-      p = put_striped {k = length before - from} now ys (omega (arith, rest_size)) (omega (arith, rest_size, a.rows.long)) s
-
--- the values of these rows
-pub rest_values : (j : ℕ) (values : List ℕ) → j ≤ length values → j + length (mid_of j (length values - j) values) ≡ length values
-rest_values j values h = omega (arith, mid_long j (length values - j) values (omega arith))
-
-pub rest_value : (j z : ℕ) (values : List ℕ) → z < length (mid_of j (length values - j) values)
-    → get_or (mid_of j (length values - j) values) z 0 ≡ get_or values (j + z) 0
-rest_value j z values h =
-    get_or-take (length values - j) (drop j values) z 0 (omega (arith, length-take (length values - j) (drop j values))) ∙ get_or-drop j values z 0
+      p = put_striped {k = length now - from} now ys (omega (arith, back_size)) (omega (arith, back_size)) s
 
 -- ---- eight rows at a time
 
@@ -255,23 +256,19 @@ block_long n block few long = length-take-le (8 * n) block (omega arith)
 -- an array whose first bytes are lent, striped by row and handed back
 pub block_made : {ys row : List ℕ} (blank : List ℕ) → length row ≤ longest_side → length blank ≡ 8 * longest_side
     → Striped (take (8 * length row) blank) ys (length row) 8 (λ i j. get_or row i 0) → Block (ys ++ drop (8 * length row) blank) row
-block_made {ys} {row} blank few size s = record {
-  long = length-append ys rest ∙ omega (arith, many, length-drop (8 * length row) blank);
-  here = λ i j hi hj. get_or-append ys rest 0 (j * length row + i) (omega (arith, inside (length row) 8 i j hi hj, many)) ∙ s.here i j hi hj;
-}
-  where
-    rest : List ℕ
-    rest = drop (8 * length row) blank
-
-    many : length ys ≡ 8 * length row
-    many = s.long ∙ block_long (length row) blank few size
+block_made {ys} {row} blank few size s =
+    let r : Striped blank (ys ++ drop (8 * length row) blank) (length row) 8 (λ i j. get_or row i 0) = front_striped blank (mul_comm 8 (length row)) (omega arith) s in
+    record { long = r.long ∙ size; here = r.here }
 
 pub blocks_fit : (n w : ℕ) → 8 * n * (w / 8) ≤ n * w
 blocks_fit n w =
     let h : 8 * (w / 8) ≤ w = omega arith in
     omega (arith, mul-le-mul_right n h, mul_assoc 8 (w / 8) n, mul_assoc 8 n (w / 8), mul_comm n (w / 8), mul_comm w n)
 
--- rows of the block's first bytes are rows of row, and w / 8 rows of the block are 8 * (w / 8) rows of row
+pub blocks_end : (n w : ℕ) → 8 * n * (w / 8) ≡ 8 * (w / 8) * n
+blocks_end n w = omega (arith, mul_assoc 8 n (w / 8), mul_assoc 8 (w / 8) n, mul_comm n (w / 8))
+
+-- rows of the block's first bytes are rows of row, and m rows of the block are 8 * m rows of row
 module _ {row block : List ℕ} (few : length row ≤ longest_side) (b : Block block row) where
   pub first_long : length (take (length row) block) ≡ length row
   first_long = length-take-le (length row) block (omega (arith, b.long))
@@ -282,40 +279,31 @@ module _ {row block : List ℕ} (few : length row ≤ longest_side) (b : Block b
       (λ i j hi hj. get_or-take (length row) block i 0 hi ∙ ap (λ (u : ℕ). get_or block u 0) (omega (arith, zero-mul (length row)))
       ∙ b.here i 0 hi (omega arith)) s
 
-  pub blocks_long : (w : ℕ) (part : List ℕ) → length part ≡ length row * w
-      → length (mid_of 0 (8 * length row * (w / 8) - 0) part) ≡ length (take (8 * length row) block) * (w / 8)
-  blocks_long w part size =
-      let e : 8 * length row * (w / 8) - 0 ≡ 8 * length row * (w / 8) = omega arith in
-      mid_long 0 (8 * length row * (w / 8) - 0) part (omega (arith, blocks_fit (length row) w)) ∙ e
-      ∙ sym (ap (λ (u : ℕ). u * (w / 8)) (block_long (length row) block few b.long))
-
-  pub above_blocks : {part ys : List ℕ} {w : ℕ} → length part ≡ length row * w
-      → Striped (mid_of 0 (8 * length row * (w / 8) - 0) part) ys (length (take (8 * length row) block)) (w / 8)
-      (λ i j. get_or (take (8 * length row) block) i 0)
-      → Above part (put_mid 0 (8 * length row * (w / 8) - 0) part ys) (length row) w (8 * (w / 8)) (8 * length row * (w / 8)) (λ i j. get_or row i 0)
-  above_blocks {part} {ys} {w} size s = record {
-    start = omega (arith, mul_assoc 8 n (w / 8), mul_assoc 8 (w / 8) n, mul_comm n (w / 8));
-    size = size;
-    within = omega arith;
-    rows = record {
-      long = p.long;
-      here = λ i j hi hj.
-          let e : (8 * (j / 8) + j % 8) * n ≡ j * n = ap (λ (u : ℕ). u * n) (omega arith) in
-          let h : j % 8 * n + i < 8 * n = omega (arith, inside n 8 i (j % 8) hi (omega arith)) in
-          ap (λ (u : ℕ). get_or after u 0) (omega (arith, add-mul (8 * (j / 8)) (j % 8) n, mul_assoc 8 (j / 8) n, mul_left_comm (j / 8) 8 n))
-          ∙ p.here (j % 8 * n + i) (j / 8) h (omega arith) ∙ b.here i (j % 8) hi (omega arith);
-    };
+  block_rows : {before after : List ℕ} (m : ℕ)
+      → Striped before after (length (take (8 * length row) block)) m (λ i j. get_or (take (8 * length row) block) i 0)
+      → Striped before after (length row) (8 * m) (λ i j. get_or row i 0)
+  block_rows {before} {after} m s = record {
+    long = s.long;
+    here = λ i j hi hj.
+        let e : (8 * (j / 8) + j % 8) * n ≡ j * n = ap (λ (u : ℕ). u * n) (omega arith) in
+        let h : j % 8 * n + i < 8 * n = omega (arith, inside n 8 i (j % 8) hi (omega arith)) in
+        ap (λ (u : ℕ). get_or after u 0) (omega (arith, add-mul (8 * (j / 8)) (j % 8) n, mul_assoc 8 (j / 8) n, mul_left_comm (j / 8) 8 n))
+        ∙ p.here (j % 8 * n + i) (j / 8) h (omega arith) ∙ b.here i (j % 8) hi (omega arith);
   }
     where
       n : ℕ
       n = length row
 
-      after : List ℕ
-      after = put_mid 0 (8 * n * (w / 8) - 0) part ys
+      p : Striped before after (8 * n) m (λ i j. get_or block i 0)
+      p = striped_as (block_long n block few b.long) (λ i j hi hj. get_or-take (8 * n) block i 0 hi) s
 
-      p : Painted part after 0 (8 * n) (w / 8) (λ i j. get_or block i 0)
-      p = put_striped {k = 8 * n * (w / 8) - 0} part ys (omega arith) (omega (arith, blocks_fit n w))
-          (striped_as (block_long n block few b.long) (λ i j hi hj. get_or-take (8 * n) block i 0 hi) s)
+  -- the rows of w / 8 blocks, which are lent at the front
+  pub above_rest : {part ys : List ℕ} (w : ℕ) → length part ≡ length row * w
+      → Striped (take (8 * length row * (w / 8)) part) ys (length (take (8 * length row) block)) (w / 8) (λ i j. get_or (take (8 * length row) block) i 0)
+      → Striped part (ys ++ drop (8 * length row * (w / 8)) part) (length row) (8 * (w / 8)) (λ i j. get_or row i 0)
+  above_rest {part} {ys} w size s =
+      let long : length (take (8 * length row) block) ≡ 8 * length row = block_long (length row) block few b.long in
+      block_rows (w / 8) (front_striped part (ap (λ (u : ℕ). u * (w / 8)) (sym long)) (omega (arith, blocks_fit (length row) w)) s)
 
 -- ---- a layer's part, lent from `from` to `to`, striped and handed back
 

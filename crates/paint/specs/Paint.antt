@@ -2,6 +2,7 @@
 -- Columns i and tracks j are counted from 0 here, as code counts them.
 --
 --   Striped before after n w f        a part of w rows of n bytes: row j's byte i is f i j
+--   Lined before after n w value      the same, where byte i of row j is one of the values that `value i j` admits
 --   Painted before after from n w f   the same of the part that starts at `from`, and every other byte is as it was
 --   Block block row                   the block's first bytes are eight copies of the row; it has room for eight of the longest
 --   Drawn n w before after top x      layers 1 to top, of n × w bytes each, hold the wiring x, and every byte past them is as it was
@@ -12,6 +13,10 @@ use Rattle.terms.specs.Limits.{longest_side}
 pub record Striped (before after : List ℕ) (n w : ℕ) (f : ℕ → ℕ → ℕ) : Type 0 where
   pub long : length after ≡ length before
   pub here : (i j : ℕ) → i < n → j < w → get_or after (j * n + i) 0 ≡ f i j
+
+pub record Lined (before after : List ℕ) (n w : ℕ) (value : ℕ → ℕ → ℕ → Type 0) : Type 0 where
+  pub long : length after ≡ length before
+  pub here : (i j : ℕ) → i < n → j < w → value i j (get_or after (j * n + i) 0)
 
 pub record Painted (before after : List ℕ) (from n w : ℕ) (f : ℕ → ℕ → ℕ) : Type 0 where
   pub long : length after ≡ length before

@@ -5,10 +5,12 @@
 --   ticket_end s b          where the ticket of the record that starts at byte b ends
 --   record_at s b more      where that ticket stands; nothing at b where it and more bytes after it are not whole
 --   Cut s b more r          r is that record, and in bounds: where it does not end at b itself, more bytes follow
+--   Asked s more r ticket fields rest
+--                           r is a record at the front of s: its ticket, the more bytes after it, and what follows them
 --   HoldsWhatWasRead old new bytes
 --                           of an input, the bytes that were to come, `old`, are now `new`, as far as they are known; those between stand
 --                           at the start of bytes, however many they are
-use Rattle.std.specs.Prelude.{ℕ, zero, suc, ◌+◌, ◌*◌, ◌≤◌, max, cond, List, ◌≡◌, leb, length, get_or, take}
+use Rattle.std.specs.Prelude.{ℕ, zero, suc, ◌+◌, ◌*◌, ◌≤◌, max, cond, List, ◌≡◌, leb, ◌<◌, length, get_or, take, drop, slice_range}
 use Rattle.std.specs.Io.KnownBytes.{Consumes}
 use Rattle.std.specs.declared.option.Option.{Option}
 use Rattle.terms.specs.Limits.{byte_values}
@@ -33,6 +35,12 @@ pub record Cut (s : List ℕ) (b more : ℕ) (r : Record) : Type 0 where
   pub ends : b ≤ r.end
   pub inside : r.end ≤ length s
   pub room : r.end + more ≤ max (b + more) (length s)
+
+pub record Asked (s : List ℕ) (more : ℕ) (r : Record) (ticket fields rest : List ℕ) : Type 0 where
+  pub some : 0 < r.end
+  pub ticket_is : ticket ≡ slice_range s r.from r.end
+  pub fields_are : fields ≡ take more (drop r.end s)
+  pub rest_is : rest ≡ drop more (drop r.end s)
 
 abbrev pub HoldsWhatWasRead : Option (List ℕ) → Option (List ℕ) → List ℕ → Type 0
 HoldsWhatWasRead old new bytes = (n : ℕ) × (n ≤ length bytes) × Consumes old new (take n bytes)

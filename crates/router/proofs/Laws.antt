@@ -1,5 +1,5 @@
--- From what the drawing crates promise to what Lay promises: the grid that the answer speaks of is the one that is drawn, and its tracks and floor are
--- those that no rival beats.
+-- From what the drawing crates promise to what Lay promises: the grid that the answer speaks of is the one that is drawn, and its tracks
+-- and floor are those that no rival beats.
 use Prim.Native.Nat.{ℕ, zero, suc, ◌+◌, ◌*◌, ◌/◌, ◌≤◌, max, min}
 use mathlib.Core.Path.{◌≡◌, refl, sym, ap, ap₂, ◌∙◌, subst, subst₂, fun_ext}
 use mathlib.Core.Logic.{◌≢◌}
@@ -233,7 +233,10 @@ module _ (q : Problem) where
       })
 
       pub given_row : kind ≡ row → Given q.pins.north q.pins.south n w byte2 (2 * byte2) wiring × ((a : ℕ) → get_or q.pins.south a 0 ≡ 0)
-      given_row e = (drawable (2 * byte2) (subst Thin (sym e) thin_row) (row_layers e), λ a. good.bare south (ap (λ (k : ℕ). has_side k south) e) (suc a))
+      given_row e = (
+        drawable (2 * byte2) (subst Thin (sym e) thin_row) (row_layers e),
+        λ a. good.bare south (ap (λ (k : ℕ). has_side k south) e) (suc a),
+      )
 
       pub given_channel : kind ≡ channel → Given q.pins.north q.pins.south n w byte2 (2 * byte2 + 1) wiring
       given_channel e = drawable (2 * byte2 + 1) (subst Thin (sym e) thin_channel) (channel_layers e)
@@ -246,7 +249,8 @@ module _ (q : Problem) where
         souths = λ i h. good.numbered south (suc i);
         wests = λ j h. good.numbered west (suc j);
         easts = λ j h. good.numbered east (suc j);
-        room = subst₂ (λ (u v : ℕ). n * u * v ≤ length wiring) (sym same) (box_layers_lem e ∙ ap (box_layers n) (sym (same ∙ box_tracks e))) room;
+        room = subst₂ (λ (u v : ℕ). n * u * v ≤ length wiring) (sym same)
+            (box_layers_lem e ∙ ap (box_layers n) (sym (same ∙ box_tracks e))) room;
       }
 
       pub box_wide : kind ≡ box → w ≡ width_of q

@@ -1,25 +1,21 @@
 -- Lay's promise at each of its ways out: turned down by Read; solid, the buffer too short, or laid, which the outcome of a problem says.
-use Prim.Native.Nat.{ℕ, ◌*◌, ◌≤◌, ◌<◌}
+use Prim.Native.Nat.{ℕ, ◌≤◌, ◌<◌}
 use mathlib.Core.Path.{◌≡◌, refl, sym, ap, ◌∙◌, subst}
 use mathlib.Core.Logic.{◌≢◌}
-use mathlib.Core.Bool.{Bool, true, false, not}
+use mathlib.Core.Bool.{true, false}
 use mathlib.Core.List.{List}
 use native.Mathlib.Omega.{arith}
-use native.Mathlib.Decide.{ℕ_discrete}
 use lib.Dec.{leb}
 use lib.ListN.{length}
-use borrow.Author.Tests.{eq-eqb, ne_eqb, leb-true, le-leb, lt-leb}
+use borrow.Author.Tests.{eq-eqb, ne_eqb, le-leb, lt-leb}
 use Rattle.counting.proofs.Sums.{split}
-use Rattle.terms.specs.declared.Refusal.{Refusal}
 use Rattle.terms.specs.Refusals.{refusal}
-use Rattle.terms.specs.Kinds.{north, south, two_layer}
-use Rattle.terms.proofs.Laws.{thin, is_of_box, of_two_layer}
+use Rattle.terms.specs.Kinds.{two_layer}
+use Rattle.terms.proofs.Laws.{thin, is_of_box}
 use Rattle.problem.specs.declared.Problem.{Problem}
 use Rattle.problem.specs.Problem.{pins_in, Good}
 use Rattle.figures.specs.declared.Figures.{Figures}
 use Rattle.figures.specs.Figures.{figures_of}
-use Rattle.two_layer_law.specs.Solid.{solid}
-use Rattle.two_layer_law.specs.Moves.{width_for}
 use Rattle.ticket.specs.declared.Reading.{Reading}
 use Rattle.ticket.specs.Read.{ticket_of, ticket_pins}
 use Rattle.ticket.proofs.Good.{read_good}
@@ -27,7 +23,8 @@ use Rattle.grid.specs.Grid.{Grid}
 use Rattle.grid.specs.Legal.{Wiring, Legal, GridOf}
 use Rattle.grid.specs.Laid.{Laid}
 use Rattle.router.specs.declared.LayAnswer.{LayAnswer}
-use Rattle.router.specs.Lay.{first_of, laid_width, needed, is_solid, answered, laid_answer, refused, lay_good, lay_of, laid_grid, Lays, Outcome}
+use Rattle.router.specs.Lay.{first_of, laid_width, needed, is_solid, answered, laid_answer, refused, lay_good, lay_of, laid_grid}
+use Rattle.router.specs.Lay.{Lays, Outcome}
 use Rattle.router.proofs.Laws.{flat, no_narrower, no_lower, two_layer_tracks, two_layer_layers, two_layer_first, two_layer_solid}
 use Rattle.router.proofs.Laws.{solid_kind}
 use Rattle.router.proofs.TwoLayer.{no_wiring, few, some_track}
@@ -44,12 +41,13 @@ module _ (q : Problem) (before : List ℕ) (r : LayAnswer) where
   pub turned_solid : is_solid q ≡ true → r ≡ refused (refusal 17 0) → Outcome q before before r
   turned_solid s e = stays (λ z. omega (arith, ap number e)) (rw s e)
 
-  pub too_short : (size : ℕ) → is_solid q ≡ false → size ≡ needed q → length before < size → r ≡ refused (refusal 10 size) → Outcome q before before r
+  pub too_short : (size : ℕ) → is_solid q ≡ false → size ≡ needed q → length before < size → r ≡ refused (refusal 10 size)
+      → Outcome q before before r
   too_short size s h lt e = stays (λ z. omega (arith, ap number e))
       (rw (s, lt-leb (needed q) (length before) (omega arith)) (e ∙ ap (λ (k : ℕ). refused (refusal 10 k)) h))
 
-  pub drawn : (after : List ℕ) → is_solid q ≡ false → needed q ≤ length before → Laid (laid_grid (laid_answer q)) (pins_in q.pins) before after
-      → r ≡ laid_answer q → Outcome q before after r
+  pub drawn : (after : List ℕ) → is_solid q ≡ false → needed q ≤ length before
+      → Laid (laid_grid (laid_answer q)) (pins_in q.pins) before after → r ≡ laid_answer q → Outcome q before after r
   drawn after s room y e = subst (Outcome q before after) (sym e) (record {
     answer = rw (s, le-leb (needed q) (length before) room);
     untouched = λ ne. absurd (ne refl);
@@ -57,9 +55,9 @@ module _ (q : Problem) (before : List ℕ) (r : LayAnswer) where
   })
 
 -- the answer, from what its parts were computed to be
-pub answer_is : (q : Problem) {o : Refusal} {f : Figures} {w : ℕ} → o ≡ refusal 0 0 → f ≡ figures_of q → w ≡ laid_width q
-    → answered o q f w (first_of q) ≡ laid_answer q
-answer_is q e h g = λ i. answered (e i) q (h i) (g i) (first_of q)
+pub answer_is : (q : Problem) {f : Figures} {w : ℕ} → f ≡ figures_of q → w ≡ laid_width q
+    → answered (refusal 0 0) q f w (first_of q) ≡ laid_answer q
+answer_is q h g = λ i. answered (refusal 0 0) q (h i) (g i) (first_of q)
 
 -- ---- the answer's number tells the way
 

@@ -1,4 +1,5 @@
--- What the drawing crates ask of the table of spans: the tables of a problem's spans, with none to the west or the east of a row or a channel.
+-- What the drawing crates ask of the table of spans: the tables of a problem's spans, with none to the west or the east of a row or a
+-- channel.
 use Prim.Native.Nat.{ℕ}
 use mathlib.Core.Path.{◌≡◌, sym, ◌∙◌, subst}
 use mathlib.Core.Bool.{false}
@@ -13,19 +14,8 @@ use Rattle.terms.proofs.Laws.{Thin, no_west, no_east}
 use Rattle.problem.specs.declared.Problem.{Problem}
 use Rattle.problem.specs.Problem.{pins_in, Good, width_of}
 use Rattle.nets.specs.declared.Spans.{Spans}
-use Rattle.nets.specs.Tables.{pin_count_to, NetTable, SpansOf, Spanned}
+use Rattle.nets.specs.Tables.{pin_count_to, NetTable, SpansOf}
 use Rattle.trunks.specs.Trunks.{SpanColumns}
-
-pub spanned : {q : Problem} {t : Spans} → SpansOf q t
-    → Spanned q t.columns.first t.columns.last t.columns.one t.columns.two t.tracks.one t.tracks.two
-spanned is = record {
-  firsts = is.columns.first;
-  lasts = is.columns.last;
-  on_north = is.columns.one;
-  on_south = is.columns.two;
-  on_west = is.tracks.one;
-  on_east = is.tracks.two;
-}
 
 module _ (q : Problem) (good : Good q) where
   bare_table : (s : Side) (n : ℕ) {list : List ℕ} → has_side q.kind s ≡ false → NetTable (pin_count_to (pins_in q.pins s) n) list
@@ -37,13 +27,13 @@ module _ (q : Problem) (good : Good q) where
         (λ a h. bit_zero (ne_eqb (pins_in q.pins s a) m (λ z. omega (arith, good.bare s e a))));
   }
 
-  module _ {first last norths souths wests easts : List ℕ} (is : Spanned q first last norths souths wests easts) where
-    pub thin_tables : Thin q.kind → SpanColumns q.pins.north q.pins.south q.n.0 first last wests easts
-    thin_tables t = record {
-      firsts = is.firsts;
-      lasts = is.lasts;
-      no_west = bare_table west (width_of q) (no_west t) is.on_west;
-      no_east = bare_table east (width_of q) (no_east t) is.on_east;
+  module _ {t : Spans} (is : SpansOf q t) where
+    pub thin_tables : Thin q.kind → SpanColumns q.pins.north q.pins.south q.n.0 t.columns.first t.columns.last t.tracks.one t.tracks.two
+    thin_tables h = record {
+      firsts = is.columns.first;
+      lasts = is.columns.last;
+      no_west = bare_table west (width_of q) (no_west h) is.tracks.one;
+      no_east = bare_table east (width_of q) (no_east h) is.tracks.two;
     }
 
     -- a box's own width

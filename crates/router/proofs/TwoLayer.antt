@@ -25,7 +25,7 @@ use Rattle.two_layer_law.proofs.Unwired.{unwired}
 use Rattle.two_layer_law.specs.Channels.{Several}
 use Rattle.two_layer_law.proofs.Planning.{few_tracks}
 use Rattle.two_layer_plan.specs.declared.Plan.{Plan}
-use Rattle.two_layer_plan.specs.Plan.{Planned}
+use Rattle.two_layer_plan.specs.Plan.{Operated}
 use Rattle.two_layer.specs.Given.{from_north, from_south, Layable}
 use Rattle.two_layer.proofs.Laying.{width}
 use Rattle.router.specs.Lay.{laid_width, needed, laid_answer, laid_grid}
@@ -68,7 +68,8 @@ module _ (q : Problem) (good : Good q) (two : q.kind ≡ two_layer) where
 
   -- another pin of a net is on the same side or on the other
   other : (s : Side) (c : ℕ) → p s c ≢ 0 → Another (shape_of q) p s c
-      → ((d : ℕ) × In d n × (pin north d ≢ pin s c) × (p north d ≡ p s c)) ⊎ ((d : ℕ) × In d n × (pin south d ≢ pin s c) × (p south d ≡ p s c))
+      → ((d : ℕ) × In d n × (pin north d ≢ pin s c) × (p north d ≡ p s c))
+      ⊎ ((d : ℕ) × In d n × (pin south d ≢ pin s c) × (p south d ≡ p s c))
   other s c nz o = by_side o.side o.place o.on o.net o.different
     where
       by_side : (t : Side) (d : ℕ) → In d (places (shape_of q) t) → p t d ≡ p s c → pin t d ≢ pin s c
@@ -112,22 +113,20 @@ module _ (q : Problem) (good : Good q) (two : q.kind ≡ two_layer) where
   narrow e = omega (arith, few e, good.columns)
 
   -- what is computed from the plan is what the answer says
-  module _ {plan : Plan} (found : Planned (p north) (p south) n plan) where
-    pub solid_found : plan.solid ≡ solid p n
-    solid_found = found.solid ∙ sym solid_is
+  module _ {plan : Plan} (found : Operated (p north) (p south) n plan) where
+    pub wirable : solid p n ≡ false
+    wirable = solid_is ∙ found.wirable
 
-    module _ (wirable : plan.solid ≡ false) where
-      pub given : Layable q.pins.north q.pins.south n plan
-      given = record {
-        channel = subst (Channel n) (sym (two_sided q bare_west bare_east)) channel_of;
-        several_norths = several_norths;
-        several_souths = several_souths;
-        planned = found;
-        wirable = wirable;
-      }
+    pub given : Layable q.pins.north q.pins.south n plan
+    given = record {
+      channel = subst (Channel n) (sym (two_sided q bare_west bare_east)) channel_of;
+      several_norths = several_norths;
+      several_souths = several_souths;
+      planned = found;
+    }
 
-      pub tracks_laid : (w : ℕ) → w ≡ op_tracks (from_north plan) (from_south plan) → w ≡ width_for (p north) (p south) n
-      tracks_laid w e = e ∙ width given
+    pub tracks_laid : (w : ℕ) → w ≡ op_tracks (from_north plan) (from_south plan) → w ≡ width_for (p north) (p south) n
+    tracks_laid w e = e ∙ width given
 
   module _ (w : ℕ) (e : w ≡ width_for (p north) (p south) n) (f : Figures) (same : f ≡ figures_of q) where
     pub two_layers : f.layers.0 ≡ 2

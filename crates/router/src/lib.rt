@@ -2,17 +2,19 @@
 #![tactic(auto)]
 
 ghost use Rattle.std.specs.Prelude.{◌≡◌, ◌≢◌, ◌≤◌, length};
-ghost use Rattle.terms.specs.Kinds.{north, south, two_layer};
+ghost use Rattle.terms.specs.Kinds.{two_layer};
+ghost use Rattle.terms.specs.Refusals.{refusal};
 ghost use Rattle.problem.specs.Problem.{pins_in, Good};
-ghost use Rattle.nets.specs.Tables.{pin_count_to, NetTable, Spanned};
+ghost use Rattle.nets.specs.Tables.{SpansOf};
 ghost use Rattle.figures.specs.Figures.{figures_of};
 ghost use Rattle.grid.specs.Laid.{Laid};
 ghost use Rattle.router.specs.Lay.{first_of, laid_width, needed, answered, laid_answer, refused, laid_grid, Lays, Outcome};
 
 use figures::Figures;
 use grid::{Column, Layer, Track};
+use nets::Spans;
 use problem::Problem;
-use terms::{BOX, CHANNEL, NET_ENTRIES, ROW, Refusal, TWO_LAYER, refuse, wide};
+use terms::{BOX, CHANNEL, ROW, Refusal, TWO_LAYER};
 
 #[derive(Clone, Copy)]
 pub struct LayAnswer {
@@ -46,130 +48,93 @@ fn refused(refusal: Refusal) -> LayAnswer
 }
 
 // Whether layer 1 is horizontal.
-fn first_direction(q: Problem) -> bool
-    ensures { result ≡ first_of q }
+fn first_direction(q: &Problem) -> bool
+    ensures { result ≡ first_of q.now }
 {
-    if q.kind == BOX {
-        return grid::is_turned(q.n, Track(wide(q.byte2)));
-    }
-    false
+    q.kind == BOX && grid::is_turned(q.n, Track(usize::from(q.byte2)))
 }
 
-fn answered(refusal: Refusal, q: Problem, f: Figures, w: Track) -> LayAnswer
-    ensures { result ≡ answered refusal q f w.0 (first_of q) }
+// The answer to a problem that is laid with so many tracks.
+fn answered(q: &Problem, f: Figures, w: Track) -> LayAnswer
+    ensures { result ≡ answered (refusal 0 0) q.now f w.0 (first_of q.now) }
 {
-    let first = first_direction(q);
-    let n = q.n;
-    let k = f.layers;
-    let floor = f.floor;
     LayAnswer {
-        refusal,
+        refusal: Refusal {
+            number: 0,
+            place: 0,
+        },
         kind: q.kind,
-        n,
+        n: q.n,
         w,
-        k,
-        first,
+        k: f.layers,
+        first: first_direction(q),
         nets: q.nets,
         across: f.across,
         up: f.up,
-        floor,
+        floor: f.floor,
     }
 }
 
 // Lays a good problem of a row, a channel or a box into a buffer that is long enough.
-fn draw<'a>(
-    q: Problem,
-    first: &'a [u8; NET_ENTRIES],
-    last: &'a [u8; NET_ENTRIES],
-    norths: &'a [u8; NET_ENTRIES],
-    souths: &'a [u8; NET_ENTRIES],
-    wests: &'a [u8; NET_ENTRIES],
-    easts: &'a [u8; NET_ENTRIES],
-    w: Track,
-    wiring: &mut [u8],
-)
-    requires good { Good q × (q.kind ≢ two_layer) × (w.0 ≡ laid_width q) × (needed q ≤ length wiring.old) }
-    requires spanned { Spanned q first.now last.now norths.now souths.now wests.now easts.now }
-    ensures { Laid (laid_grid (laid_answer q)) (pins_in q.pins) wiring.old wiring.new }
+fn draw(q: &Problem, spans: &Spans, w: Track, wiring: &mut [u8])
+    requires good { Good q.now × (q.now.kind ≢ two_layer) × (w.0 ≡ laid_width q.now) × (needed q.now ≤ length wiring.old) }
+    requires spans { SpansOf q.now spans.now }
+    ensures { Laid (laid_grid (laid_answer q.now)) (pins_in q.now.pins) wiring.old wiring.new }
 {
     let kind = q.kind;
-    let n = q.n;
-    let third = q.byte2 as usize;
-    let north = q.pins.north;
-    let south = q.pins.south;
-    let west = q.pins.west;
-    let east = q.pins.east;
+    let h = usize::from(q.byte2);
     if kind == ROW {
-        channel::lay_row(
-            &north, &south, first, last, norths, souths, wests, easts, n, w, third, wiring,
-        );
+        channel::lay_row(&q.pins, spans, q.n, w, h, wiring);
         return;
     }
     if kind == CHANNEL {
-        channel::lay_channel(
-            &north, &south, first, last, norths, souths, wests, easts, n, w, third, wiring,
-        );
+        channel::lay_channel(&q.pins, spans, q.n, w, h, wiring);
         return;
     }
     if kind == BOX {
-        switchbox::lay_box(
-            &north, &south, &west, &east, norths, souths, wests, easts, n, w, wiring,
-        );
+        switchbox::lay_box(&q.pins, spans, q.n, w, wiring);
     }
 }
 
 // A row, a channel or a box: its tracks are among its figures.
-fn lay_by_figures<'a>(
-    q: Problem,
-    f: Figures,
-    first: &'a [u8; NET_ENTRIES],
-    last: &'a [u8; NET_ENTRIES],
-    norths: &'a [u8; NET_ENTRIES],
-    souths: &'a [u8; NET_ENTRIES],
-    wests: &'a [u8; NET_ENTRIES],
-    easts: &'a [u8; NET_ENTRIES],
-    wiring: &mut [u8],
-) -> LayAnswer
-    requires good { Good q × (q.kind ≢ two_layer) × (f ≡ figures_of q) }
-    requires spanned { Spanned q first.now last.now norths.now souths.now wests.now easts.now }
-    ensures { Outcome q wiring.old wiring.new result }
+fn lay_by_figures(q: &Problem, spans: &Spans, f: Figures, wiring: &mut [u8]) -> LayAnswer
+    requires good { Good q.now × (q.now.kind ≢ two_layer) × (f ≡ figures_of q.now) }
+    requires spans { SpansOf q.now spans.now }
+    ensures { Outcome q.now wiring.old wiring.new result }
 {
-    let w = f.w;
-    let size = grid::points(q.n, w, f.layers);
+    let size = grid::points(q.n, f.w, f.layers);
     if wiring.len() < size {
-        return refused(refuse(10, size));
+        return refused(Refusal {
+            number: 10,
+            place: size,
+        });
     }
-    draw(q, first, last, norths, souths, wests, easts, w, wiring);
-    answered(refuse(0, 0), q, f, w)
+    draw(q, spans, f.w, wiring);
+    answered(q, f, f.w)
 }
 
 // A two-layer channel: its operations tell whether it is solid, and its tracks.
-fn lay_two_layer<'a>(
-    q: Problem,
-    f: Figures,
-    norths: &'a [u8; NET_ENTRIES],
-    souths: &'a [u8; NET_ENTRIES],
-    wiring: &mut [u8],
-) -> LayAnswer
-    requires good { Good q × (q.kind ≡ two_layer) × (f ≡ figures_of q) }
-    requires net_table { NetTable (pin_count_to (pins_in q.pins north) q.n.0) norths.now ×
-        NetTable (pin_count_to (pins_in q.pins south) q.n.0) souths.now }
-    ensures { Outcome q wiring.old wiring.new result }
+fn lay_two_layer(q: &Problem, spans: &Spans, f: Figures, wiring: &mut [u8]) -> LayAnswer
+    requires good { Good q.now × (q.now.kind ≡ two_layer) × (f ≡ figures_of q.now) }
+    requires spans { SpansOf q.now spans.now }
+    ensures { Outcome q.now wiring.old wiring.new result }
 {
-    let n = q.n;
-    let north = q.pins.north;
-    let south = q.pins.south;
-    let plan = two_layer_plan::find_plan(&north, &south, norths, souths, n);
-    if plan.solid {
-        return refused(refuse(17, 0));
-    }
-    let tracks = two_layer::tracks(plan);
-    let length = grid::points(n, tracks, f.layers);
+    let Some(plan) = two_layer_plan::find_plan(&q.pins, spans, q.n) else {
+        return refused(Refusal {
+            number: 17,
+            place: 0,
+        });
+    };
+    let tracks = two_layer::tracks(&plan);
+    let length = grid::points(q.n, tracks, f.layers);
     if wiring.len() < length {
-        return refused(refuse(10, length));
+        return refused(Refusal {
+            number: 10,
+            place: length,
+        });
     }
-    two_layer::lay(&north, &south, n, tracks, plan, wiring);
-    answered(refuse(0, 0), q, f, tracks)
+    two_layer::lay(&q.pins, q.n, tracks, &plan, wiring);
+    answered(q, f, tracks)
 }
 
 // Public call Lay. Refused, it alters no byte. Otherwise the buffer holds a legal wiring with the answer's counts, and no rival beats
@@ -179,34 +144,14 @@ pub fn lay(ticket: &[u8], wiring: &mut [u8]) -> LayAnswer
     ensures { Lays ticket.now wiring.old wiring.new result }
 {
     let t = ticket::parse_spans(ticket);
-    let refusal = t.refusal;
-    if refusal.number != 0 {
-        return refused(refusal);
+    if t.refusal.number != 0 {
+        return refused(t.refusal);
     }
-    let q = t.problem;
-    let f = figures::figures_of(
-        q,
-        &t.spans.columns.first,
-        &t.spans.columns.last,
-        &t.spans.columns.one,
-        &t.spans.columns.two,
-        &t.spans.tracks.first,
-        &t.spans.tracks.last,
-        &t.spans.tracks.one,
-        &t.spans.tracks.two,
-    );
+    let q = &t.problem;
+    let spans = &t.spans;
+    let f = figures::figures_of(q, spans);
     if q.kind == TWO_LAYER {
-        return lay_two_layer(q, f, &t.spans.columns.one, &t.spans.columns.two, wiring);
+        return lay_two_layer(q, spans, f, wiring);
     }
-    lay_by_figures(
-        q,
-        f,
-        &t.spans.columns.first,
-        &t.spans.columns.last,
-        &t.spans.columns.one,
-        &t.spans.columns.two,
-        &t.spans.tracks.one,
-        &t.spans.tracks.two,
-        wiring,
-    )
+    lay_by_figures(q, spans, f, wiring)
 }

@@ -14,17 +14,17 @@
 --   line_for a, line_of s
 --                     the line of an answer and of a ticket; "Each line ends in one newline"
 --   longest_line      no line is longer
+--   line_length r     the length that survey_line's answer gives: of what was written, or needed
 --   Lined s before after r
 --                     what survey_line does: it answers the length that the line needs, and whether the buffer has it; the line is written
 --                     to the buffer's front, and one that is too short is left as it is
-use Rattle.std.specs.Prelude.{ℕ, zero, suc, ◌+◌, ◌/◌, ◌%◌, ◌≤◌, ◌≡◌, cond, List, [], ◌∷◌, ◌++◌, ltb, leb, length}
+use Rattle.std.specs.Prelude.{ℕ, zero, suc, ◌+◌, ◌/◌, ◌%◌, ◌≤◌, ◌≡◌, cond, List, [], ◌∷◌, ◌++◌, ltb, leb, length, Result, Ok, Err, is_ok}
 use Prim.Native.Char.{code}
 use Prim.Native.String.{String, [] as end, ◌∷◌ as ◌then◌}
 use Rattle.terms.specs.Kinds.{row, channel, box, two_layer, by_kind, word}
 use Rattle.terms.specs.Refusals.{accepted, unless}
 use Rattle.output.specs.Writing.{written_over}
 use Rattle.survey.specs.declared.SurveyAnswer.{SurveyAnswer}
-use Rattle.survey.specs.declared.LineAnswer.{LineAnswer}
 use Rattle.survey.specs.Survey.{survey_of}
 
 abbrev pub text : String → List ℕ
@@ -73,8 +73,12 @@ line_of s = line_for (survey_of s)
 abbrev pub longest_line : ℕ
 longest_line = 224
 
-pub record Lined (s before after : List ℕ) (r : LineAnswer) : Type 0 where
-  pub needed : r.length ≡ length (line_of s)
-  pub short : r.length ≤ longest_line
-  pub written : r.ok ≡ leb (length (line_of s)) (length before)
+abbrev pub line_length : Result ℕ ℕ → ℕ
+line_length (Ok n) = n
+line_length (Err n) = n
+
+pub record Lined (s before after : List ℕ) (r : Result ℕ ℕ) : Type 0 where
+  pub needed : line_length r ≡ length (line_of s)
+  pub short : line_length r ≤ longest_line
+  pub written : is_ok r ≡ leb (length (line_of s)) (length before)
   pub bytes : after ≡ written_over (line_of s) before

@@ -5,13 +5,14 @@ ghost use Rattle.std.specs.Prelude.{◌≡◌, ◌+◌, ◌≤◌, ◌++◌, len
 ghost use Rattle.survey.specs.Survey.{answered, refused, survey_of};
 ghost use Rattle.survey.specs.Line.{decimal, counted, box_line, trunk_line, two_layer_line, refused_line, line_for, longest_line};
 ghost use Rattle.survey.specs.Line.{Lined};
+ghost use Rattle.arrayvec.specs.ArrayVec.{array_vec_len};
 ghost use Rattle.output.specs.Building.{Says, Adds};
 
 use figures::Figures;
 use grid::{Column, Layer, Track};
-use output::{Output, append, blank, deliver, put};
+use output::{Output, deliver};
 use problem::Problem;
-use terms::{BOX, CHANNEL, ROW, Refusal, TWO_LAYER, wide};
+use terms::{BOX, CHANNEL, ROW, Refusal, TWO_LAYER};
 
 #[derive(Clone, Copy)]
 pub struct SurveyAnswer {
@@ -78,144 +79,123 @@ pub fn survey(ticket: &[u8]) -> SurveyAnswer
         return refused(refusal);
     }
     let q = t.problem;
-    let figures = figures::figures_of(
-        q,
-        &t.spans.columns.first,
-        &t.spans.columns.last,
-        &t.spans.columns.one,
-        &t.spans.columns.two,
-        &t.spans.tracks.first,
-        &t.spans.tracks.last,
-        &t.spans.tracks.one,
-        &t.spans.tracks.two,
-    );
-    let pins = nets::pin_total(
-        &t.spans.columns.one,
-        &t.spans.columns.two,
-        &t.spans.tracks.one,
-        &t.spans.tracks.two,
-    );
+    let figures = figures::figures_of(&q, &t.spans);
+    let pins = t.spans.pin_count();
     answered(q, figures, pins)
 }
 
 pub const LONGEST_LINE: usize = 224;
 
-// What survey_line answers: whether the line was written, and its length.
-#[derive(Clone, Copy)]
-pub struct LineAnswer {
-    pub ok: bool,
-    pub length: usize,
-}
-
 // The digits before the last, and then the last.
-fn number(line: Output, x: usize) -> Output
-    requires { line.used + length (decimal x) ≤ longest_line }
-    ensures { Adds line (decimal x) result }
+fn number(line: &mut Output, x: usize)
+    requires { array_vec_len line.old + length (decimal x) ≤ longest_line }
+    ensures adds { Adds line.old (decimal x) line.new }
+    ensures size { array_vec_len line.new ≡ array_vec_len line.old + length (decimal x) }
 {
-    if x < 10 {
-        return put(line, 48 + x as u8);
+    if 10 <= x {
+        number(line, x / 10);
     }
-    let front = number(line, x / 10);
-    put(front, 48 + (x % 10) as u8)
+    line.push(b'0' + (x % 10) as u8);
 }
 
 // Words and then a number, which has 20 digits at most.
-fn field(line: Output, words: &[u8], x: usize) -> Output
-    requires { line.used + length words.now + 20 ≤ longest_line }
-    ensures adds { Adds line (words.now ++ decimal x) result }
-    ensures used_bound { result.used ≤ line.used + length words.now + 20 }
+#[tactic(auto, using(crate::proofs::Lines::decimal_short))]
+fn field(line: &mut Output, words: &[u8], x: usize)
+    requires { array_vec_len line.old + length words.now + 20 ≤ longest_line }
+    ensures adds { Adds line.old (words.now ++ decimal x) line.new }
+    ensures used_bound { array_vec_len line.new ≤ array_vec_len line.old + length words.now + 20 }
 {
-    number(append(line, words), x)
+    line.try_extend_from_slice(words).unwrap();
+    number(line, x);
 }
 
 // What every line has: nets, pins and across.
-fn counts(line: Output, a: SurveyAnswer) -> Output
-    requires { line.used + 80 ≤ longest_line }
-    ensures adds { Adds line (counted a) result }
-    ensures used_bound { result.used ≤ line.used + 80 }
+fn counts(line: &mut Output, a: &SurveyAnswer)
+    requires { array_vec_len line.old + 80 ≤ longest_line }
+    ensures adds { Adds line.old (counted a.now) line.new }
+    ensures used_bound { array_vec_len line.new ≤ array_vec_len line.old + 80 }
 {
-    let line = field(line, b" nets ", wide(a.nets));
-    let line = field(line, b" pins ", a.pins);
-    field(line, b" across ", a.across)
+    field(line, b" nets ", usize::from(a.nets));
+    field(line, b" pins ", a.pins);
+    field(line, b" across ", a.across);
 }
 
-fn box_line(a: SurveyAnswer) -> Output
-    ensures says { Says result (box_line a) }
-    ensures used_le_longest_line { result.used ≤ longest_line }
+fn box_line(a: &SurveyAnswer) -> Output
+    ensures says { Says result (box_line a.now) }
+    ensures used_le_longest_line { array_vec_len result ≤ longest_line }
 {
-    let line = field(blank(), b"box length ", a.n.0);
-    let line = field(line, b" width ", a.w.0);
-    let line = counts(line, a);
-    let line = field(line, b" up ", a.up);
-    let line = field(line, b" layers ", a.layers.0);
-    let line = field(line, b" floor ", a.floor.0);
-    put(line, b'\n')
+    let mut line = Output::new();
+    field(&mut line, b"box length ", a.n.0);
+    field(&mut line, b" width ", a.w.0);
+    counts(&mut line, a);
+    field(&mut line, b" up ", a.up);
+    field(&mut line, b" layers ", a.layers.0);
+    field(&mut line, b" floor ", a.floor.0);
+    line.push(b'\n');
+    line
 }
 
 // A row or a channel, its first words given.
-fn trunk_line(a: SurveyAnswer, words: &[u8]) -> Output
+fn trunk_line(a: &SurveyAnswer, words: &[u8]) -> Output
     requires { length words.now ≤ 15 }
-    ensures says { Says result (trunk_line words.now a) }
-    ensures used_le_longest_line { result.used ≤ longest_line }
+    ensures says { Says result (trunk_line words.now a.now) }
+    ensures used_le_longest_line { array_vec_len result ≤ longest_line }
 {
-    let line = field(blank(), words, a.n.0);
-    let line = counts(line, a);
-    let line = field(line, b" tracks ", a.w.0);
-    let line = field(line, b" layers ", a.layers.0);
-    put(line, b'\n')
+    let mut line = Output::new();
+    field(&mut line, words, a.n.0);
+    counts(&mut line, a);
+    field(&mut line, b" tracks ", a.w.0);
+    field(&mut line, b" layers ", a.layers.0);
+    line.push(b'\n');
+    line
 }
 
 // A two-layer channel, whose tracks only its wiring tells.
-fn two_layer_line(a: SurveyAnswer) -> Output
-    ensures says { Says result (two_layer_line a) }
-    ensures used_le_longest_line { result.used ≤ longest_line }
+fn two_layer_line(a: &SurveyAnswer) -> Output
+    ensures says { Says result (two_layer_line a.now) }
+    ensures used_le_longest_line { array_vec_len result ≤ longest_line }
 {
-    let line = field(blank(), b"two-layer length ", a.n.0);
-    let line = counts(line, a);
-    let line = field(line, b" layers ", a.layers.0);
-    put(line, b'\n')
+    let mut line = Output::new();
+    field(&mut line, b"two-layer length ", a.n.0);
+    counts(&mut line, a);
+    field(&mut line, b" layers ", a.layers.0);
+    line.push(b'\n');
+    line
 }
 
-fn refused_line(a: SurveyAnswer) -> Output
-    ensures says { Says result (refused_line a) }
-    ensures used_le_longest_line { result.used ≤ longest_line }
+fn refused_line(a: &SurveyAnswer) -> Output
+    ensures says { Says result (refused_line a.now) }
+    ensures used_le_longest_line { array_vec_len result ≤ longest_line }
 {
-    let line = field(blank(), b"refused ", wide(a.refusal.number));
-    let line = field(line, b" at ", a.refusal.place);
-    put(line, b'\n')
+    let mut line = Output::new();
+    field(&mut line, b"refused ", usize::from(a.refusal.number));
+    field(&mut line, b" at ", a.refusal.place);
+    line.push(b'\n');
+    line
 }
 
-fn line_for(a: SurveyAnswer) -> Output
-    ensures says { Says result (line_for a) }
-    ensures used_le_longest_line { result.used ≤ longest_line }
+#[tactic(auto, unfolding(crate::specs::Line::line_for))]
+fn line_for(a: &SurveyAnswer) -> Output
+    ensures says { Says result (line_for a.now) }
+    ensures used_le_longest_line { array_vec_len result ≤ longest_line }
 {
     if a.refusal.number != 0 {
         return refused_line(a);
     }
-    if a.kind == ROW {
-        return trunk_line(a, b"row length ");
+    match a.kind {
+        ROW => trunk_line(a, b"row length "),
+        CHANNEL => trunk_line(a, b"channel length "),
+        BOX => box_line(a),
+        TWO_LAYER => two_layer_line(a),
+        _ => Output::new(),
     }
-    if a.kind == CHANNEL {
-        return trunk_line(a, b"channel length ");
-    }
-    if a.kind == BOX {
-        return box_line(a);
-    }
-    if a.kind == TWO_LAYER {
-        return two_layer_line(a);
-    }
-    blank()
 }
 
-// Public call Survey, as the program's line: written to the front of `out`, or, where `out` is too short, only measured.
-pub fn survey_line(ticket: &[u8], out: &mut [u8]) -> LineAnswer
+// Public call Survey, as the program's line: written to the front of `out`, and its length; or, where `out` is too short, the length
+// that it needs.
+pub fn survey_line(ticket: &[u8], out: &mut [u8]) -> Result<usize, usize>
     ensures { Lined ticket.now out.old out.new result }
 {
-    let line = line_for(survey(ticket));
-    let length = line.used;
-    let r = deliver(line, out);
-    LineAnswer {
-        ok: r.refusal.number == 0,
-        length,
-    }
+    let line = line_for(&survey(ticket));
+    deliver(line.as_slice(), out).map_err(|short| short.place)
 }

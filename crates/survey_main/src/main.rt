@@ -10,7 +10,7 @@ fn main(rt: HostRuntime) -> io::Result<()> {
     let mut bytes = [0u8; LONGEST_TICKET + 1];
     let n = records::read_full(&mut rt.stdin(), &mut bytes)?;
     let mut out = [0u8; LONGEST_LINE];
-    let answer = survey_line(&bytes[..n], &mut out);
-    let length = answer.length;
-    rt.write_all(&out[..length])
+    match survey_line(&bytes[..n], &mut out) {
+        Ok(length) | Err(length) => rt.write_all(&out[..length]),
+    }
 }

@@ -1,11 +1,14 @@
 -- The tables of a box whose nets on just north and east are the most numerous corner kind are fit for the assignment of lanes,
 -- and with these lanes the box is laid.
-use Prim.Native.Nat.{ℕ, zero, suc, ◌+◌, ◌*◌, ◌≤◌, ◌<◌}
+use Prim.Native.Nat.{ℕ, zero, suc, ◌+◌, ◌*◌, ◌/◌, ◌%◌, ◌≤◌, ◌<◌, min}
 use mathlib.Core.Path.{◌≡◌, refl, sym, ap, subst₂, ◌∙◌, fun_ext}
 use mathlib.Core.List.{List}
 use mathlib.Core.Bool.{Bool, true, false}
 use native.Mathlib.Omega.{arith}
-use native.Mathlib.Nat.{add-mul, mul-le-mul_right}
+use native.Mathlib.Nat.{add-mul, suc-mul, mul-le-mul_right}
+use native.Mathlib.Decide.{dec_le}
+use denote.Bor.{Bor}
+use Rattle.std.proofs.lemmas.Grind.{div_ceil_times}
 use lib.Dec.{eqb}
 use lib.ListN.{length, get_or, take}
 use lib.Seq.{get_or-take, length-take-le}
@@ -173,6 +176,29 @@ module _ {o : Orientation} {a b c d ca cb cc' cd : List ℕ} {n w : ℕ} {before
     room = box.room;
   }
 
+-- of four lists that are lent, that of a side
+pub now_on : (a b c d : Bor (List ℕ)) {x : Bor (List ℕ)} {s t : Side} → x ≡ by_side a b c d s → s ≡ t → x.now ≡ by_side a.now b.now c.now d.now t
+now_on a b c d {x} {s} {t} e f = ap (λ (r : Bor (List ℕ)). r.now) e ∙ go s ∙ ap (by_side a.now b.now c.now d.now) f
+  where
+    go : (s : Side) → ◌≡◌ {A = List ℕ} ((by_side a b c d s).now) (by_side a.now b.now c.now d.now s)
+    go north = refl
+    go south = refl
+    go west = refl
+    go east = refl
+
+-- n/w rounded up as a quotient and one more where there is a remainder
+pub ceil_is : (n w : ℕ) → 1 ≤ w → n / w + min 1 (n % w) ≡ ceil n w
+ceil_is n w h = same (n / w + min 1 (n % w)) (ceil n w) (div_ceil_times n w h) (round_up n w h)
+  where
+    less : (p q : ℕ) → n ≤ p * w → q * w < n + w → p < q → ⊥
+    less p q lp hq l = omega (arith, mul-le-mul_right w l, suc-mul p w)
+
+    same : (p q : ℕ) → (n ≤ p * w) × (p * w < n + w) → (n ≤ q * w) × (q * w < n + w) → p ≡ q
+    same p q hp hq = elim (dec_le p q) [
+      | yes l ↦ elim (dec_le q p) [ yes k ↦ omega arith | no k ↦ absurd (less p q hp.0 hq.1 (omega arith)) ]
+      | no l ↦ absurd (less q p hq.0 hp.1 (omega arith))
+    ]
+
 -- the lists that are looked up are the moved box's own: its counts ya to yd, and its west and south sides yw and ys
 pub record Found (o : Orientation) (a b c d ca cb cc cd ya yb yc yd yw ys : List ℕ) : Type 0 where
   pub norths : ya ≡ own_list o ca cb cc cd north
@@ -181,6 +207,19 @@ pub record Found (o : Orientation) (a b c d ca cb cc cd ya yb yc yd yw ys : List
   pub easts : yd ≡ own_list o ca cb cc cd east
   pub west_side : yw ≡ own_list o a b c d west
   pub south_side : ys ≡ own_list o a b c d south
+
+pub found_on : {o : Orientation} {a b c d ca cb cc' cd ya yb yc yd yw ys : List ℕ}
+    → ya ≡ own_list o ca cb cc' cd north → yb ≡ own_list o ca cb cc' cd south → yc ≡ own_list o ca cb cc' cd west
+    → yd ≡ own_list o ca cb cc' cd east → yw ≡ own_list o a b c d west → ys ≡ own_list o a b c d south
+    → Found o a b c d ca cb cc' cd ya yb yc yd yw ys
+found_on norths souths wests easts west_side south_side = record {
+  norths = norths;
+  souths = souths;
+  wests = wests;
+  easts = easts;
+  west_side = west_side;
+  south_side = south_side;
+}
 
 module _ {o : Orientation} {a b c d ca cb cc' cd ya yb yc yd yw ys : List ℕ} {n w : ℕ} {before : List ℕ}
     (box : Canonical o a b c d ca cb cc' cd n w before) (found : Found o a b c d ca cb cc' cd ya yb yc yd yw ys) where

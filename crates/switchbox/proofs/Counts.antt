@@ -1,12 +1,10 @@
 -- The tables of counts say how many pins each net has on each side, and so how many nets there are of each corner kind.
-use Prim.Native.Nat.{ℕ, ◌≤◌, ◌<◌, max}
+use Prim.Native.Nat.{ℕ}
 use mathlib.Core.Path.{◌≡◌, sym, ap, ap₂, subst₂, ◌∙◌}
 use mathlib.Core.List.{List}
 use mathlib.Core.Bool.{Bool, true, false, ◌&&◌}
-use native.Mathlib.Omega.{arith}
 use lib.Dec.{ltb, eqb}
 use lib.ListN.{length, get_or}
-use borrow.Author.Tests.{ltb-true, ltb-false}
 use Rattle.counting.specs.Counting.{In, count}
 use Rattle.counting.proofs.Counts.{count_same}
 use Rattle.terms.specs.Kinds.{Side, north, south, west, east}
@@ -41,14 +39,6 @@ top_same a b c d a' b' c' d' o ea eb ec ed h =
 
 abbrev flips : Bool → Bool → Bool → Orientation
 flips τ φ ψ = record { turned = τ; columns_reversed = φ; tracks_reversed = ψ }
-
-pub top_north : (ne nw se sw : ℕ) (τ φ ψ : Bool) → ψ ≡ false → max se sw ≤ max ne nw → φ ≡ ltb ne nw → Top ne nw se sw (flips τ φ ψ)
-top_north ne nw se sw τ false ψ e h f = let l = ltb-false ne nw (sym f) in rw e (omega arith, omega arith, omega arith, omega arith)
-top_north ne nw se sw τ true ψ e h f = let l = ltb-true ne nw (sym f) in rw e (omega arith, omega arith, omega arith, omega arith)
-
-pub top_south : (ne nw se sw : ℕ) (τ φ ψ : Bool) → ψ ≡ true → max ne nw < max se sw → φ ≡ ltb se sw → Top ne nw se sw (flips τ φ ψ)
-top_south ne nw se sw τ false ψ e h f = let l = ltb-false se sw (sym f) in rw e (omega arith, omega arith, omega arith, omega arith)
-top_south ne nw se sw τ true ψ e h f = let l = ltb-true se sw (sym f) in rw e (omega arith, omega arith, omega arith, omega arith)
 
 -- the turn exchanges the corners north-west and south-east, and columns with tracks
 pub top_turned : (ne nw se sw : ℕ) (τ τ' φ ψ : Bool) → Top ne se nw sw (flips τ φ ψ) → Top ne nw se sw (flips τ' ψ φ)

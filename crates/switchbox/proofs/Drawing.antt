@@ -4,14 +4,13 @@ use mathlib.Core.Path.{◌≡◌, refl, sym, ap, subst, ◌∙◌}
 use mathlib.Core.List.{List}
 use mathlib.Core.Bool.{Bool, not}
 use native.Mathlib.Omega.{arith}
-use native.Mathlib.Nat.{suc-mul, mul_comm, mul-le-mul, mul-le-mul_right}
+use native.Mathlib.Nat.{suc-mul, mul_comm, mul-le-mul_right}
 use lib.ListN.{length, get_or}
 use borrow.Author.Tests.{le-leb}
 use borrow.Rule.Slice.PartMut.{mid_of, put_mid}
 use Rattle.grid.specs.Legal.{Pins, entry}
 use Rattle.grid.specs.Motion.{Orientation}
 use Rattle.terms.specs.Kinds.{Side, north, west, east}
-use Rattle.terms.specs.Limits.{longest_side}
 use Rattle.orientation.specs.Lookup.{by_side, own_list}
 use Rattle.paint.proofs.Laws.{mid_size}
 use Rattle.switchbox_law.specs.Drawing.{BoxDrawing, full_lines}
@@ -23,14 +22,6 @@ use Rattle.switchbox.proofs.Layers.{striped_flip, drawn_as_same, drawn_as_next, 
 pub record Layered (p : Pins) (n w : ℕ) (tracks columns : List ℕ) (q : ℕ) (turned : Bool) (before now : List ℕ) (l from : ℕ) : Type 0 where
   pub start : from ≡ l * (n * w)
   pub layers : DrawnAs turned n w before now l (box_lines w q p tracks columns)
-
--- where each layer starts is a small number
-pub layer_small : {o : Orientation} {a b c d : List ℕ} {n w : ℕ} {tracks columns : List ℕ} {q : ℕ} {before : List ℕ}
-    → Drawable o a b c d n w tracks columns q before
-    → 2 * q * (n * w) + 4 * (n * w) ≤ (2 * longest_side + 4) * (longest_side * longest_side)
-layer_small {n = n} {w = w} {q = q} fit =
-    let s : n * w ≤ longest_side * longest_side = mul-le-mul fit.lined.long.1 fit.lined.wide.1 in
-    omega (arith, mul-le-mul {n₁ = 2 * q} {n₂ = 2 * longest_side} (omega (arith, fit.lined.few)) s)
 
 -- the part of `size` bytes from `from` on, and the whole when it is handed back
 abbrev layer_at : ℕ → ℕ → List ℕ → List ℕ

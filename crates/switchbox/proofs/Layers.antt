@@ -1,72 +1,20 @@
 -- Layers are painted one after the other, upright or turned, and the drawn layers are the wiring that the buffer holds.
 use Prim.Native.Nat.{ℕ, suc, ◌+◌, ◌*◌, ◌-◌, ◌≤◌, ◌<◌}
-use mathlib.Core.Path.{◌≡◌, sym, ap, subst, subst₂, ◌∙◌}
+use mathlib.Core.Path.{◌≡◌, ap, ◌∙◌}
 use mathlib.Core.List.{List}
 use mathlib.Core.Bool.{Bool, true, false, not}
 use native.Mathlib.Nat.{mul_comm}
-use lib.ListN.{length, get_or}
+use lib.ListN.{length}
 use borrow.Rule.Slice.PartMut.{mid_of, put_mid}
-use Rattle.counting.specs.Counting.{In}
-use Rattle.terms.specs.Kinds.{Side}
-use Rattle.terms.specs.Limits.{longest_side}
-use Rattle.grid.specs.Legal.{Wiring, entry, pins_of}
-use Rattle.grid.specs.Motion.{Orientation}
-use Rattle.orientation.specs.Lookup.{own_side, own_list, on_lines}
-use Rattle.orientation.proofs.Looks.{side_pins}
-use Rattle.paint.specs.Paint.{Striped}
-use Rattle.paint.proofs.Laws.{drawn_none, drawn_part}
-use Rattle.switchbox.specs.Layers.{StripedAs, DrawnBy, DrawnAs, Combed, CombAs}
-
-pub striped_plain : {before after : List ℕ} {n w : ℕ} {f : ℕ → ℕ → ℕ} (turned : Bool) → turned ≡ false → Striped before after n w f
-    → StripedAs turned before after n w f
-striped_plain turned e p = rw e (record { is = p })
-
-pub striped_turned : {before after : List ℕ} {n w : ℕ} {f : ℕ → ℕ → ℕ} (turned : Bool) → turned ≡ true → Striped before after w n (λ i j. f j i)
-    → StripedAs turned before after n w f
-striped_turned turned e p = rw e (record { is = p })
+use Rattle.grid.specs.Legal.{Wiring}
+use Rattle.paint.proofs.Laws.{drawn_part}
+use Rattle.switchbox.specs.Layers.{StripedAs, DrawnBy, DrawnAs}
 
 -- what is striped by tracks has its columns for tracks
 pub striped_flip : {before after : List ℕ} {n w : ℕ} {f : ℕ → ℕ → ℕ} (turned : Bool) → StripedAs (not turned) before after n w f
     → StripedAs turned before after w n (λ i j. f j i)
 striped_flip false p = record { is = p.is }
 striped_flip true p = record { is = p.is }
-
--- the ticket's list `own` has the pins of the moved box's side s
-pub record Own (o : Orientation) (a b c d : List ℕ) (s : Side) (own : List ℕ) : Type 0 where
-  pub is : own ≡ own_list o a b c d s
-
--- its comb
-module _ {o : Orientation} {a b c d own : List ℕ} {s : Side} (found : Own o a b c d s own) where
-  held : entry own ≡ on_lines o (pins_of a b c d) s
-  held = ap entry found.is ∙ sym (side_pins a b c d (own_side o s))
-
-  module _ {before after : List ℕ} {k : ℕ} (by_track : Bool) where
-    pub comb_columns : by_track ≡ false → Striped before after (length own) k (λ i j. get_or own i 0) → CombAs by_track o a b c d s k before after
-    comb_columns e p =
-        striped_plain by_track e
-        (subst₂ (λ (l : List ℕ) (f : ℕ → ℕ). Striped before after (length l) k (λ i j. f (suc i))) found.is held p)
-
-    pub comb_tracks : by_track ≡ true → Striped before after k (length own) (λ i j. get_or own j 0) → CombAs by_track o a b c d s k before after
-    comb_tracks e p =
-        striped_turned by_track e
-        (subst₂ (λ (l : List ℕ) (f : ℕ → ℕ). Striped before after k (length l) (λ i j. f (suc j))) found.is held p)
-
-  -- the part has a line of length k for each of its places
-  pub combed_columns : {k : ℕ} {part : List ℕ} → Combed (own_list o a b c d s) k part
-      → In (length own) longest_side × (1 ≤ k) × (length part ≡ length own * k)
-  combed_columns {k} {part} h =
-      subst (λ (l : List ℕ). In (length l) longest_side × (1 ≤ k) × (length part ≡ length l * k)) (sym found.is)
-      (h.short, h.some, h.size)
-
-  pub combed_tracks : {k : ℕ} {part : List ℕ} → Combed (own_list o a b c d s) k part
-      → (length own ≤ longest_side) × (length part ≡ k * length own)
-  combed_tracks {k} {part} h =
-      subst (λ (l : List ℕ). (length l ≤ longest_side) × (length part ≡ k * length l)) (sym found.is)
-      (h.short.1, h.size ∙ mul_comm _ k)
-
-pub drawn_as_none : (turned : Bool) (n w : ℕ) (l : List ℕ) (x : Wiring) → DrawnAs turned n w l l 0 x
-drawn_as_none false n w l x = record { is = drawn_none n w l x }
-drawn_as_none true n w l x = record { is = drawn_none w n l (λ i j l. x j i l) }
 
 -- the next layer's part is lent, striped as x has it, and handed back
 pub drawn_as_next : (turned : Bool) {n w top from to : ℕ} {before now ys : List ℕ} {f : ℕ → ℕ → ℕ} {x : Wiring} → from ≡ top * (n * w)

@@ -2,9 +2,9 @@
 use Prim.Native.Nat.{ℕ, suc, ◌+◌, ◌*◌, ◌-◌, ◌/◌, ◌%◌, ◌≤◌, ◌<◌}
 use mathlib.Core.Path.{◌≡◌, refl, sym, ap, subst, ◌∙◌}
 use mathlib.Core.List.{List}
-use mathlib.Core.Bool.{Bool, true, false, cond}
+use mathlib.Core.Bool.{Bool, true, false, not, cond}
 use native.Mathlib.Omega.{arith}
-use native.Mathlib.Nat.{add-mul, suc-mul, mul-le-mul, mul-le-mul_right}
+use native.Mathlib.Nat.{add-mul, suc-mul, mul-le-mul_right}
 use lib.Dec.{eqb}
 use lib.ListN.{length, get_or, drop}
 use lib.Seq.{get_or-take, get_or-drop}
@@ -12,51 +12,26 @@ use borrow.Author.Tests.{eqb-true, eqb-false}
 use borrow.Rule.Slice.PartMut.{mid_of, put_mid}
 use Rattle.counting.proofs.Sums.{split}
 use Rattle.terms.specs.Kinds.{Side, north, south}
-use Rattle.terms.specs.Limits.{longest_side}
 use Rattle.grid.specs.Legal.{Pins, Wiring, entry}
 use Rattle.grid.specs.Motion.{Orientation}
 use Rattle.orientation.specs.Lookup.{own_list}
 use Rattle.paint.proofs.Laws.{mid_size}
 use Rattle.switchbox_law.specs.Drawing.{BoxDrawing}
 use Rattle.switchbox_law.proofs.FullLines.{drawn}
-use Rattle.switchbox.specs.Layers.{StripedAs, DrawnAs, Combed, track_lines, Lined}
-use Rattle.switchbox.proofs.Layers.{drawn_as_none, drawn_as_next, drawn_as_long}
+use Rattle.switchbox.specs.Layers.{StripedAs, DrawnAs, track_lines, Lined}
+use Rattle.switchbox.proofs.Layers.{striped_flip, drawn_as_next, drawn_as_long}
 
 -- before round t + 1; the pins are those of the moved box, on the ticket's lines
-pub record Rounds (p : Pins) (n w : ℕ) (tracks : List ℕ) (q : ℕ) (turned : Bool) (before now : List ℕ) (from start t : ℕ) : Type 0 where
+pub record Rounds (p : Pins) (n w : ℕ) (tracks : List ℕ) (q : ℕ) (turned : Bool) (before now : List ℕ) (t : ℕ) : Type 0 where
   pub few : t ≤ q
-  pub at : from ≡ 2 * t * (n * w)
-  pub lane : start ≡ t * w
   pub layers : DrawnAs turned n w before now (2 * t) (track_lines w q p tracks)
-
-pub no_round : (p : Pins) (n w : ℕ) (tracks : List ℕ) (q : ℕ) (turned : Bool) (before : List ℕ)
-    → Rounds p n w tracks q turned before before 0 0 0
-no_round p n w tracks q turned before = record {
-  few = omega arith;
-  at = omega arith;
-  lane = omega arith;
-  layers = drawn_as_none turned n w before (track_lines w q p tracks);
-}
-
-pub all_rounds : {p : Pins} {n w : ℕ} {tracks : List ℕ} {q : ℕ} {turned : Bool} {before now : List ℕ} {from start t : ℕ}
-    → Rounds p n w tracks q turned before now from start t → q ≤ t → DrawnAs turned n w before now (2 * q) (track_lines w q p tracks)
-all_rounds {p} {n} {w} {tracks} {q} {turned} {before} {now} {from} {start} {t} r h =
-    let e : t ≡ q = omega (arith, r.few) in
-    subst (λ (v : ℕ). DrawnAs turned n w before now (2 * v) (track_lines w q p tracks)) e r.layers
 
 -- two layers more are within those of all rounds
 two_more : (s q t : ℕ) → t < q → 2 * t * s + s + s ≤ 2 * q * s
 two_more s q t h = let le : (2 * t + 2) * s ≤ 2 * q * s = mul-le-mul_right s (omega arith) in omega (arith, add-mul (2 * t) 2 s)
 
--- the layers' sizes fit
-small : (s q : ℕ) → s ≤ longest_side * longest_side → q ≤ longest_side → 2 * q * s ≤ 2 * longest_side * (longest_side * longest_side)
-small s q hs hq = mul-le-mul {n₂ = 2 * longest_side} {m₂ = longest_side * longest_side} (omega arith) hs
-
 module _ {o : Orientation} {a b' c d : List ℕ} {n w : ℕ} {tracks : List ℕ} {q : ℕ} {before : List ℕ}
     (fit : Lined o a b' c d n w tracks q before) where
-  pub size_small : n * w ≤ longest_side * longest_side
-  size_small = mul-le-mul fit.long.1 fit.wide.1
-
   -- the comb is north's or south's, which have n places
   side_lines : (b : Bool) {s : Side} → s ≡ cond b north south → length (own_list o a b' c d s) ≡ n
   side_lines b e = ap (λ (s : Side). length (own_list o a b' c d s)) e ∙ go b
@@ -65,41 +40,31 @@ module _ {o : Orientation} {a b' c d : List ℕ} {n w : ℕ} {tracks : List ℕ}
       go false = fit.sides.long south
       go true = fit.sides.long north
 
-  module _ {p : Pins} {turned : Bool} {now : List ℕ} {from start t : ℕ} (r : Rounds p n w tracks q turned before now from start t)
-      (more : t < q) where
-    pub round_fits : from + n * w + n * w ≤ length now
-    round_fits = omega (arith, r.at, two_more (n * w) q t more, fit.room, drawn_as_long r.layers)
-
-    pub round_small : from + n * w + n * w ≤ 2 * longest_side * (longest_side * longest_side)
-    round_small = omega (arith, r.at, two_more (n * w) q t more, small (n * w) q size_small fit.few)
-
-    pub lane_fits : start + w ≤ length tracks
-    lane_fits = omega (arith, r.lane, fit.lanes, mul-le-mul_right w more, suc-mul t w)
-
-    pub lane_small : start + w ≤ longest_side * longest_side
-    lane_small = omega (arith, lane_fits, fit.lanes, mul-le-mul fit.few fit.wide.1)
-
+  module _ {p : Pins} {turned : Bool} {now : List ℕ} {t : ℕ} (r : Rounds p n w tracks q turned before now t) (more : t < q) where
     -- a round's two layers, and as many entries of the tracks as the second has tracks
+    abbrev from : ℕ
+    from = 2 * t * (n * w)
+
     abbrev middle : ℕ
-    middle = from + n * w
+    middle = 2 * t * (n * w) + n * w
 
     abbrev to : ℕ
-    to = from + n * w + n * w
+    to = 2 * t * (n * w) + n * w + n * w
+
+    abbrev start : ℕ
+    start = t * w
 
     abbrev lane : List ℕ
-    lane = mid_of start (start + w - start) tracks
+    lane = mid_of (t * w) (t * w + w - t * w) tracks
+
+    round_fits : from + n * w + n * w ≤ length now
+    round_fits = omega (arith, two_more (n * w) q t more, fit.room, drawn_as_long r.layers)
+
+    lane_fits : start + w ≤ length tracks
+    lane_fits = omega (arith, fit.lanes, mul-le-mul_right w more, suc-mul t w)
 
     lane_long : length lane ≡ w
     lane_long = mid_size start (start + w) tracks refl lane_fits
-
-    comb_size : length (mid_of from (middle - from) now) ≡ n * w
-    comb_size = mid_size from middle now refl (omega (arith, round_fits))
-
-    pub comb_asked : {s : Side} → s ≡ cond (eqb ((t + q) % 2) 0) north south
-        → Combed (own_list o a b' c d s) w (mid_of from (middle - from) now)
-    comb_asked e =
-        let k = side_lines (eqb ((t + q) % 2) 0) e in
-        record { short = omega (arith, k, fit.long); some = fit.wide.0; size = comb_size ∙ ap (λ (u : ℕ). u * w) (sym k) }
 
     abbrev x : Wiring
     x = track_lines w q p tracks
@@ -120,7 +85,6 @@ module _ {o : Orientation} {a b' c d : List ℕ} {n w : ℕ} {tracks : List ℕ}
         let l : suc (suc (2 * t)) / 2 - 1 ≡ t = omega arith in
         let s : suc (t * w + j) ≡ t * w + suc j = omega arith in
         get_or-take (start + w - start) (drop start tracks) j 0 (omega arith) ∙ get_or-drop start tracks j 0
-        ∙ ap (λ (u : ℕ). get_or tracks (u + j) 0) r.lane
         ∙ ap (entry tracks) s ∙ ap (λ (z : ℕ). entry tracks (z * w + suc j)) (sym l)
         ∙ sym (d'.rows (suc i) (suc j) (suc (suc (2 * t))) (omega arith) (omega arith) (omega arith) (omega arith))
 
@@ -131,29 +95,24 @@ module _ {o : Orientation} {a b' c d : List ℕ} {n w : ℕ} {tracks : List ℕ}
       mid = put_mid from (middle - from) now comb
 
       comb_drawn : DrawnAs turned n w before mid (suc (2 * t)) x
-      comb_drawn = drawn_as_next turned r.at refl (omega (arith, round_fits)) r.layers
+      comb_drawn = drawn_as_next turned refl refl (omega (arith, round_fits)) r.layers
           (subst (λ (v : ℕ). StripedAs turned (mid_of from (middle - from) now) comb v w (λ i j. p s (suc i)))
           (side_lines (eqb ((t + q) % 2) 0) is) one)
           (λ i j hi hj. ap (λ (z : Side). p z (suc i)) is ∙ comb_is i j hi hj)
 
-      pub row_fits : to ≤ length mid
+      row_fits : to ≤ length mid
       row_fits = omega (arith, round_fits, drawn_as_long comb_drawn, drawn_as_long r.layers)
 
-      pub row_size : length (mid_of middle (to - middle) mid) ≡ n * length lane
-      row_size = mid_size middle to mid refl row_fits ∙ ap (λ (u : ℕ). n * u) (sym lane_long)
-
-      pub next_round : {rows : List ℕ} → StripedAs turned (mid_of middle (to - middle) mid) rows n (length lane) (λ i j. get_or lane j 0)
-          → Rounds p n w tracks q turned before (put_mid middle (to - middle) mid rows) to (start + w) (t + 1)
+      pub next_round : {rows : List ℕ} → StripedAs (not turned) (mid_of middle (to - middle) mid) rows (length lane) n (λ i j. get_or lane i 0)
+          → Rounds p n w tracks q turned before (put_mid middle (to - middle) mid rows) (t + 1)
       next_round {rows} two =
           let size = n * w in
           let after = put_mid middle (to - middle) mid rows in
           let both : DrawnAs turned n w before after (suc (suc (2 * t))) x
-          = drawn_as_next turned (omega (arith, r.at, suc-mul (2 * t) size)) refl row_fits comb_drawn
-          (subst (λ (v : ℕ). StripedAs turned (mid_of middle (to - middle) mid) rows n v (λ i j. get_or lane j 0)) lane_long two) row_is in
+          = drawn_as_next turned (omega (arith, suc-mul (2 * t) size)) refl row_fits comb_drawn
+          (subst (λ (v : ℕ). StripedAs turned (mid_of middle (to - middle) mid) rows n v (λ i j. get_or lane j 0)) lane_long (striped_flip turned two)) row_is in
           let layers : suc (suc (2 * t)) ≡ 2 * (t + 1) = omega arith in
           record {
             few = omega arith;
-            at = omega (arith, r.at, add-mul (2 * t) 2 size, ap (λ (v : ℕ). v * size) layers);
-            lane = omega (arith, r.lane, add-mul t 1 w);
             layers = subst (λ (v : ℕ). DrawnAs turned n w before after v x) layers both;
           }

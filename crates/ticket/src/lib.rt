@@ -4,7 +4,7 @@
 ghost use Rattle.std.specs.Prelude.{◌≡◌, ◌+◌, ◌≤◌, length, true, eqb, leb};
 ghost use Rattle.counting.specs.Counting.{count, least};
 ghost use Rattle.terms.specs.Limits.{longest_side, largest_net};
-ghost use Rattle.nets.specs.Tables.{SpansOf, pin_sum};
+ghost use Rattle.nets.specs.Tables.{SpansOf, pins_of_net};
 ghost use Rattle.ticket_sides.specs.Format.{standing_bits, map_bytes, net_list, side_nets};
 ghost use Rattle.ticket_sides.specs.Steps.{Header};
 ghost use Rattle.ticket.specs.Read.{pins_at, left_over, no_lone, refused_reading, accepted_reading, problem_at, judged, ticket_of, read_of};
@@ -13,7 +13,7 @@ ghost use Rattle.ticket.specs.Steps.{Extent, Extents, Sited, reading_of};
 use grid::Column;
 use nets::Spans;
 use problem::{Pins, Problem};
-use terms::{LONGEST_SIDE, NET_ENTRIES, Refusal, by_kind};
+use terms::{LONGEST_SIDE, Refusal, by_kind};
 use ticket_sides::{Cursor, Ends, bit_of, go_on, header, sides, unless};
 
 // Read accepts no longer list, and one byte more than this of any list tells its whole reading: `longest`, `first_bytes` of proofs/Longest.
@@ -190,20 +190,13 @@ pub struct NetTally {
     pub nets: u8,
 }
 
-// From the lists of how many pins each side has. (For our own crates.)
-pub fn tally<'a>(
-    a: &'a [u8; NET_ENTRIES],
-    b: &'a [u8; NET_ENTRIES],
-    c: &'a [u8; NET_ENTRIES],
-    d: &'a [u8; NET_ENTRIES],
-) -> NetTally
-    ensures last { result.last
-        ≡ no_lone (least (λ m. eqb (pin_sum a.now b.now c.now d.now m) 1) largest_net) }
-    ensures nets { result.nets
-        ≡ count (λ m. leb 1 (pin_sum a.now b.now c.now d.now m)) largest_net }
+// From the table of spans. (For our own crates.)
+pub fn tally(spans: &Spans) -> NetTally
+    ensures last { result.last ≡ no_lone (least (λ m. eqb (pins_of_net spans.now m) 1) largest_net) }
+    ensures nets { result.nets ≡ count (λ m. leb 1 (pins_of_net spans.now m)) largest_net }
 {
-    let last = no_lone(nets::lone_net(a, b, c, d));
-    let nets = nets::net_count(a, b, c, d);
+    let last = no_lone(spans.lone_net().unwrap_or(0));
+    let nets = spans.net_count();
     NetTally { last, nets }
 }
 
@@ -215,13 +208,8 @@ fn judged(ticket: &[u8], pins: Pins) -> Parsed
 {
     let n = ticket[1] as usize;
     let w = by_kind(ticket[0], 1, 1, 1, ticket[2] as usize, 1);
-    let spans = nets::spans_of(&pins.north, &pins.south, &pins.west, &pins.east, n, w);
-    let tally = tally(
-        &spans.columns.one,
-        &spans.columns.two,
-        &spans.tracks.one,
-        &spans.tracks.two,
-    );
+    let spans = Spans::of(&pins, n, w);
+    let tally = tally(&spans);
     let last = tally.last;
     if last.refusal.number != 0 {
         return refused(last);

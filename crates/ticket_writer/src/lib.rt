@@ -1,50 +1,34 @@
 // The ticket writer: the bytes of a problem into a lent buffer. (For our own crates.)
 #![tactic(auto)]
 
-ghost use Rattle.std.specs.Prelude.{◌≡◌, ◌&&◌, List, [], ◌∷◌, ◌++◌, ℕ, ◌+◌, ◌*◌, ◌≤◌, ◌<◌, leb};
+ghost use Rattle.std.specs.Prelude.{◌≡◌, [], ◌∷◌, ◌++◌, ◌+◌, ◌*◌, ◌≤◌, ◌<◌};
+ghost use Rattle.arrayvec.specs.ArrayVec.{array_vec_len};
 ghost use Rattle.counting.specs.Counting.{bit};
 ghost use Rattle.terms.specs.Limits.{longest_side};
 ghost use Rattle.grid.specs.Legal.{entry};
 ghost use Rattle.problem.specs.Problem.{width_of};
 ghost use Rattle.ticket_sides.specs.Format.{map_bytes, values_from};
-ghost use Rattle.ticket_bytes.specs.Bytes.{is_filled, has_pins, map_byte, nets_to, side_bytes, bytes_of};
+ghost use Rattle.ticket_bytes.specs.Bytes.{has_pins, map_byte, nets_to, side_bytes, bytes_of};
 ghost use Rattle.output.specs.Writing.{Wrote};
 ghost use Rattle.output.specs.Building.{most_output, Says, Adds};
 
-use output::{Output, Written, blank, deliver, put};
-use problem::Problem;
-use terms::{LONGEST_SIDE, by_kind, either, wide};
+use output::{Output, deliver};
+use problem::{Pins, Problem};
+use terms::{LONGEST_SIDE, Refusal, by_kind};
 
-// Whether place i + 1 is one of the side's and holds a pin.
-fn is_filled(nets: &[u8; LONGEST_SIDE], i: usize, places: usize) -> bool
-    requires { (places ≤ longest_side) × (i < 96) }
-    ensures { result ≡ (leb (i + 1) places && is_filled (entry nets.now) (i + 1)) }
-{
-    if places <= i {
-        return false;
-    }
-    1 <= nets[i]
-}
-
-// The value of a bit that stands or not.
-fn value_of(stands: bool, power: usize) -> usize
-    ensures { (result ≡ bit stands * power) × (result ≤ power) }
-{
-    if stands { power } else { 0 }
-}
-
-// Byte j of a side's position map.
+// Byte j of a side's position map: its lowest bit is place 8j + 1, and a place past the side's own has none.
 fn map_byte(nets: &[u8; LONGEST_SIDE], j: usize, places: usize) -> u8
-    requires { (places ≤ longest_side) × (j < 12) }
+    requires { (places ≤ longest_side) × (8 * j ≤ places) }
     ensures { result ≡ map_byte (entry nets.now) places j }
 {
+    let end = places.min(8 * j + 8);
     let mut value: usize = 0;
     let mut power: usize = 1;
-    let mut b: usize = 0;
-    while b < 8 {
-        value += value_of(is_filled(nets, 8 * j + b, places), power);
+    for net in &nets[8 * j..end] {
+        if *net != 0 {
+            value += power;
+        }
         power *= 2;
-        b += 1;
     }
     value as u8
 }
@@ -53,140 +37,90 @@ fn has_pins(nets: &[u8; LONGEST_SIDE], places: usize) -> bool
     requires { places ≤ longest_side }
     ensures { result ≡ has_pins (entry nets.now) places }
 {
-    let mut found = false;
-    let mut i: usize = 0;
-    while i < places {
-        found = either(found, 1 <= nets[i]);
-        i += 1;
-    }
-    found
+    nets[..places].iter().any(|net| *net != 0)
 }
 
-fn with_map(out: Output, nets: &[u8; LONGEST_SIDE], places: usize) -> Output
-    requires { (places ≤ longest_side) × (out.used + map_bytes places ≤ most_output) }
-    ensures { Adds out (values_from (map_byte (entry nets.now) places) 0 (map_bytes places)) result }
+#[tactic(auto, using(crate::proofs::Laws::values_start, crate::proofs::Laws::values_step))]
+fn with_map(out: &mut Output, nets: &[u8; LONGEST_SIDE], places: usize)
+    requires { (places ≤ longest_side) × (array_vec_len out.old + map_bytes places ≤ most_output) }
+    ensures adds { Adds out.old (values_from (map_byte (entry nets.now) places) 0 (map_bytes places)) out.new }
+    ensures size { array_vec_len out.new ≡ array_vec_len out.old + map_bytes places }
 {
-    let mut bytes = out.bytes;
-    let mut used = out.used;
-    let size = (places + 7) / 8;
-    let mut j: usize = 0;
-    while j < size {
-        bytes[used] = map_byte(nets, j, places);
-        used += 1;
-        j += 1;
+    for j in 0..places.div_ceil(8) {
+        out.push(map_byte(nets, j, places));
     }
-    Output { bytes, used }
 }
 
-fn with_nets(out: Output, nets: &[u8; LONGEST_SIDE], places: usize) -> Output
-    requires { (places ≤ longest_side) × (out.used + places ≤ most_output) }
-    ensures adds { Adds out (nets_to (entry nets.now) places) result }
-    ensures most { result.used ≤ out.used + places }
+#[tactic(auto, using(crate::proofs::Laws::nets_start, crate::proofs::Laws::nets_more, crate::proofs::Laws::nets_same))]
+fn with_nets(out: &mut Output, nets: &[u8; LONGEST_SIDE], places: usize)
+    requires { (places ≤ longest_side) × (array_vec_len out.old + places ≤ most_output) }
+    ensures adds { Adds out.old (nets_to (entry nets.now) places) out.new }
+    ensures most { array_vec_len out.new ≤ array_vec_len out.old + places }
 {
-    let mut bytes = out.bytes;
-    let mut used = out.used;
-    let mut i: usize = 0;
-    while i < places {
-        let net = nets[i];
-        i += 1;
-        if 1 <= net {
-            bytes[used] = net;
-            used += 1;
+    for net in &nets[..places] {
+        if *net != 0 {
+            out.push(*net);
         }
     }
-    Output { bytes, used }
 }
 
 // A side: nothing where it has no pin.
-fn with_side(out: Output, nets: &[u8; LONGEST_SIDE], places: usize) -> Output
-    requires { (places ≤ longest_side) × (out.used + map_bytes places + places ≤ most_output) }
-    ensures adds { Adds out (side_bytes (entry nets.now) places) result }
-    ensures most { result.used ≤ out.used + map_bytes places + places }
+#[tactic(auto, using(crate::proofs::Laws::side_standing, crate::proofs::Laws::side_missing))]
+fn with_side(out: &mut Output, nets: &[u8; LONGEST_SIDE], places: usize)
+    requires { (places ≤ longest_side) × (array_vec_len out.old + map_bytes places + places ≤ most_output) }
+    ensures adds { Adds out.old (side_bytes (entry nets.now) places) out.new }
+    ensures most { array_vec_len out.new ≤ array_vec_len out.old + map_bytes places + places }
 {
-    if !has_pins(nets, places) {
-        return out;
+    if has_pins(nets, places) {
+        with_map(out, nets, places);
+        with_nets(out, nets, places);
     }
-    with_nets(with_map(out, nets, places), nets, places)
-}
-
-// The first four bytes.
-fn header(kind: u8, n: u8, byte2: u8, sides: u8) -> Output
-    ensures { Says result (kind ∷ n ∷ byte2 ∷ sides ∷ []) }
-{
-    put(put(put(put(blank(), kind), n), byte2), sides)
 }
 
 // The side map: a bit for each side that has a pin.
-fn side_map<'a>(
-    north: &'a [u8; LONGEST_SIDE],
-    south: &'a [u8; LONGEST_SIDE],
-    west: &'a [u8; LONGEST_SIDE],
-    east: &'a [u8; LONGEST_SIDE],
-    n: usize,
-    w: usize,
-) -> u8
+fn side_map(pins: &Pins, n: usize, w: usize) -> u8
     requires { (n ≤ longest_side) × (w ≤ longest_side) }
-    ensures { result ≡ bit (has_pins (entry north.now) n) + 2 * bit (has_pins (entry south.now) n)
-        + 4 * bit (has_pins (entry west.now) w) + 8 * bit (has_pins (entry east.now) w) }
+    ensures { result ≡ bit (has_pins (entry pins.now.north) n) + 2 * bit (has_pins (entry pins.now.south) n)
+        + 4 * bit (has_pins (entry pins.now.west) w) + 8 * bit (has_pins (entry pins.now.east) w) }
 {
-    let along = value_of(has_pins(north, n), 1) + value_of(has_pins(south, n), 2);
-    let ends = value_of(has_pins(west, w), 4) + value_of(has_pins(east, w), 8);
-    (along + ends) as u8
+    let along = u8::from(has_pins(&pins.north, n)) + 2 * u8::from(has_pins(&pins.south, n));
+    let ends = 4 * u8::from(has_pins(&pins.west, w)) + 8 * u8::from(has_pins(&pins.east, w));
+    along + ends
 }
 
-// All sides, after the header.
-fn with_sides<'a>(
-    out: Output,
-    north: &'a [u8; LONGEST_SIDE],
-    south: &'a [u8; LONGEST_SIDE],
-    west: &'a [u8; LONGEST_SIDE],
-    east: &'a [u8; LONGEST_SIDE],
-    n: usize,
-    w: usize,
-) -> Output
-    requires { (n ≤ longest_side) × (w ≤ longest_side) × (out.used ≡ 4) }
-    ensures adds { (l : List ℕ) → Says out l → Says result (l ++ side_bytes (entry north.now) n ++ side_bytes
-        (entry south.now) n ++ side_bytes (entry west.now) w ++ side_bytes (entry east.now) w) }
-    ensures most { result.used ≤ most_output }
+// All sides.
+fn with_sides(out: &mut Output, pins: &Pins, n: usize, w: usize)
+    requires { (n ≤ longest_side) × (w ≤ longest_side) × (array_vec_len out.old ≡ 4) }
+    ensures { Adds out.old (side_bytes (entry pins.now.north) n ++ side_bytes (entry pins.now.south) n
+        ++ side_bytes (entry pins.now.west) w ++ side_bytes (entry pins.now.east) w) out.new }
 {
-    let out = with_side(out, north, n);
-    let out = with_side(out, south, n);
-    let out = with_side(out, west, w);
-    with_side(out, east, w)
+    with_side(out, &pins.north, n);
+    with_side(out, &pins.south, n);
+    with_side(out, &pins.west, w);
+    with_side(out, &pins.east, w);
 }
 
 // The whole ticket.
-fn ticket_of(q: Problem) -> Output
-    requires { (q.n.0 ≤ longest_side) × (width_of q ≤ longest_side) }
-    ensures says { Says result (bytes_of q) }
-    ensures most { result.used ≤ most_output }
+#[tactic(auto, unfolding(ticket_bytes::specs::Bytes::bytes_of, ticket_bytes::specs::Bytes::side_map))]
+fn ticket_of(q: &Problem) -> Output
+    requires { (q.now.n.0 ≤ longest_side) × (width_of q.now ≤ longest_side) }
+    ensures { Says result (bytes_of q.now) }
 {
     let n = grid::column_count(q.n);
-    let w = by_kind(q.kind, 1, 1, 1, wide(q.byte2), 1);
-    let sides = side_map(
-        &q.pins.north,
-        &q.pins.south,
-        &q.pins.west,
-        &q.pins.east,
-        n,
-        w,
-    );
-    let out = header(q.kind, n as u8, q.byte2, sides);
-    with_sides(
-        out,
-        &q.pins.north,
-        &q.pins.south,
-        &q.pins.west,
-        &q.pins.east,
-        n,
-        w,
-    )
+    let w = by_kind(q.kind, 1, 1, 1, usize::from(q.byte2), 1);
+    let mut out = Output::new();
+    out.push(q.kind);
+    out.push(n as u8);
+    out.push(q.byte2);
+    out.push(side_map(&q.pins, n, w));
+    with_sides(&mut out, &q.pins, n, w);
+    out
 }
 
 // Writes the ticket that states the problem, or says 19.
-pub fn write_ticket(q: Problem, ticket: &mut [u8]) -> Written
+pub fn write_ticket(q: Problem, ticket: &mut [u8]) -> Result<usize, Refusal>
     requires { (q.n.0 ≤ longest_side) × (width_of q ≤ longest_side) }
     ensures { Wrote (bytes_of q) ticket.old ticket.new result }
 {
-    deliver(ticket_of(q), ticket)
+    deliver(ticket_of(&q).as_slice(), ticket)
 }

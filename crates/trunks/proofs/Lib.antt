@@ -1,4 +1,4 @@
-pub mod Steps
+pub mod Searches
 pub mod Ends
 pub mod Listings
 pub mod Gallai

@@ -8,8 +8,7 @@ use mathlib.Core.Logic.{inl, inr, ◌≢◌, by_cases, ⊎_elim}
 use mathlib.Core.Bool.{Bool, true, false, ◌||◌, not, and-eq-true_iff}
 use mathlib.Core.List.Memᴰ
 use mathlib.Core.List.{List, [], ◌∷◌, ◌++◌, Memᴰ}
-use lib.ListN.{length, get_or, set, take, length-take}
-use lib.Seq.{take-suc-set}
+use lib.ListN.{get_or}
 use lib.Dec.{eqb, ltb}
 use borrow.Author.Tests.{eq-eqb, ne_eqb, eqb-true, eqb-false, ltb-true, lt-ltb}
 use Rattle.counting.specs.Counting.{In}
@@ -27,14 +26,6 @@ ordered_more (u ∷ ss) s o h = (
   λ t i. ⊎_elim (o.0 t) (λ j. let e = Memᴰ.eq_of_singleton j in rw e (h u (Memᴰ.head refl))) (Memᴰ.append_cases ss i),
   ordered_more ss s o.1 (λ t i. h t (Memᴰ.tail i)),
 )
-
-pub list_starts : (pin : ℕ → ℕ) (span : ℕ → Span) → SpansListed pin span 0 []
-list_starts pin span = record {
-  each = λ s i. absurd (Memᴰ.not-nil i);
-  met = λ s i. absurd (Memᴰ.not-nil i);
-  all = λ e h. absurd (omega arith);
-  ordered = tt;
-}
 
 module _ (pin : ℕ → ℕ) (span : ℕ → Span) (q : ℕ) (ss : List Span) (l : SpansListed pin span q ss) where
   -- a net that lies in one column, or has been met before
@@ -151,11 +142,3 @@ module _ (north south : List ℕ) (hn : Numbered north) (hs : Numbered south) {n
             let low : get_or first (pin q) 0 ≤ column e = rw s at (early e (omega arith)) in
             let same : 2 * (q / 2) ≡ e = omega arith in
             alone q _ _ a (omega arith) (sym (pin_north north south (q / 2)) ∙ ap pin same ∙ s)
-
--- the list is an array's first elements, and the next one is stored behind them
-pub stored : {pin : ℕ → ℕ} {span : ℕ → Span} {q : ℕ} (spans : List Span) (count : ℕ) (s : Span) → length spans ≡ 180 → count < 180
-    → SpansListed pin span q (take count spans ++ (s ∷ [])) → SpansListed pin span q (take (count + 1) (set spans count s))
-stored spans count s size h l = rw (add-one count, take-suc-set spans count s (omega arith)) l
-
-pub short : (n : ℕ) (spans : List Span) → n ≤ 180 → length (take n spans) ≤ 180
-short n spans h = omega (arith, length-take n spans)

@@ -1,6 +1,5 @@
 -- Gallai's packing of spans into places, as the code runs it. The promise is in Trunks; this file says what each step computes.
 --
---   no_span            the span that stands past a list's end
 --   pick b a c         a for yes, c for no
 --   first_free lasts l the first place whose last span ended before column l, or the number of places where none is
 --   fresh_packing      no span has its place yet
@@ -12,9 +11,6 @@ use Rattle.std.specs.Prelude.{ℕ, suc, ◌≤◌, ◌<◌, Bool, true, false, L
 use Rattle.terms.specs.Limits.{largest_net, net_entries}
 use Rattle.nets.specs.declared.Span.{Span}
 use Rattle.trunks.specs.declared.Packing.{Packing}
-
-abbrev pub no_span : Span
-no_span = record { net = 0; left = 0; right = 0; north = 0; south = 0; west = 0; east = 0 }
 
 abbrev pub pick : Bool → ℕ → ℕ → ℕ
 pick true a c = a

@@ -1,20 +1,14 @@
 -- The operations that were found for a channel fit the arrays and the grid, and what they draw is legal, by the laws of two-layer channels.
-use Prim.Native.Nat.{ℕ, zero, suc, ◌+◌, ◌*◌, ◌≤◌, ◌<◌}
-use mathlib.Core.Path.{◌≡◌, refl, sym, ap, ◌∙◌, subst}
-use mathlib.Core.Bool.{Bool, true, false}
+use Prim.Native.Nat.{ℕ, ◌≤◌}
+use mathlib.Core.Path.{◌≡◌, refl, sym, ◌∙◌, subst}
 use mathlib.Core.List.{List}
 use native.Mathlib.Omega.{arith}
-use lib.Dec.{leb}
-use Rattle.counting.specs.Counting.{In}
-use Rattle.counting.proofs.Sums.{split}
-use Rattle.counting.proofs.Counts.{count_le}
-use Rattle.terms.specs.Limits.{largest_net, longest_side, widest_grid}
-use Rattle.terms.specs.Kinds.{north, south}
+use Rattle.terms.specs.Limits.{widest_grid}
 use Rattle.grid.specs.Grid.{upright}
 use Rattle.grid.specs.Legal.{Legal, entry, wiring_of, column_pins}
 use Rattle.grid.specs.Laid.{Laid}
 use Rattle.two_layer_law.specs.Cuts.{Ops, Same, Consistent, op_tracks}
-use Rattle.two_layer_law.specs.Moves.{leads, solid_test, several, Gathered, MoveState, moved, next, steps, start_of, moves_of, most_moves, moves, width_for}
+use Rattle.two_layer_law.specs.Moves.{leads, Gathered, start_of, moves_of, most_moves, moves, width_for}
 use Rattle.two_layer_law.proofs.Legality.{consistent_legal}
 use Rattle.two_layer_law.proofs.Moving.{Brought, moving}
 use Rattle.two_layer_law.proofs.Gathering.{gathered_runs}
@@ -22,17 +16,10 @@ use Rattle.two_layer_law.proofs.Planning.{movable, few_wrong, few_tracks, width_
 use Rattle.two_layer_cuts.specs.Rows.{ops_of}
 use Rattle.two_layer_plan.specs.declared.Plan.{Plan}
 use Rattle.two_layer.specs.Drawing.{OpsFit, ChannelDrawn}
-use Rattle.two_layer.specs.Given.{from_north, from_south, Few, Layable}
-
-steps_le : (n : ℕ) (goal : ℕ → ℕ) (most : ℕ) (st : MoveState) → steps n goal st most ≤ most
-unfolding steps
-steps_le n goal zero st = omega arith
-steps_le n goal (suc most) st =
-    split (leb 1 (moved n goal st)) (λ e. rw e (omega (arith, steps_le n goal most (next n goal st)))) (λ e. rw e (omega arith))
+use Rattle.two_layer.specs.Given.{from_north, from_south, Layable}
 
 gathered_fits : {a b : ℕ → ℕ} {n : ℕ} {o : Ops} → Gathered a b n o → OpsFit n o
 gathered_fits {a} {b} {n} {o} g = let r = gathered_runs g in record {
-  few = omega (arith, g.count, count_le (several a n) largest_net);
   column = r.column;
   ends = r.ends;
 }
@@ -44,29 +31,22 @@ module _ {N S : List ℕ} {n : ℕ} {plan : Plan} (given : Layable N S n plan) w
   abbrev b : ℕ → ℕ
   b = entry S
 
-  open_test : solid_test a b n ≡ false
-  open_test = sym given.planned.solid ∙ given.wirable
-
-  same : Same (ops_of plan.moves) (moves_of n (leads b a n) (start_of a b n) (moves a b n))
-  same = given.planned.moves given.wirable
+  same : Same (ops_of plan.moves.items) (moves_of n (leads b a n) (start_of a b n) (moves a b n))
+  same = given.planned.moves
 
   made : Brought n (leads b a n) (start_of a b n) (moves a b n)
   unfolding moves
-  made = moving n (leads b a n) (start_of a b n) most_moves (movable a b n refl open_test) (few_wrong a b n given.channel.columns.1)
+  made = moving n (leads b a n) (start_of a b n) most_moves (movable a b n refl given.planned.wirable)
+      (few_wrong a b n given.channel.columns.1)
 
-  few_moves : moves a b n ≤ largest_net
-  unfolding moves
-  few_moves = omega (arith, steps_le n (leads b a n) most_moves (start_of a b n))
-
-  pub fits_norths : OpsFit n (ops_of plan.norths)
+  pub fits_norths : OpsFit n (ops_of plan.norths.items)
   fits_norths = gathered_fits given.planned.norths
 
-  pub fits_souths : OpsFit n (ops_of plan.souths)
+  pub fits_souths : OpsFit n (ops_of plan.souths.items)
   fits_souths = gathered_fits given.planned.souths
 
-  pub fits_moves : OpsFit n (ops_of plan.moves)
+  pub fits_moves : OpsFit n (ops_of plan.moves.items)
   fits_moves = record {
-    few = omega (arith, same.many, few_moves);
     column = λ s h. subst (λ (t : ℕ). t ≤ n) (sym (same.tos s h)) (made.runs.column s (omega (arith, same.many)));
     ends = λ s h. let e = made.runs.ends s (omega (arith, same.many)) in (
       subst (λ (t : ℕ). 1 ≤ t) (sym (same.lows s h)) e.0,
@@ -74,20 +54,18 @@ module _ {N S : List ℕ} {n : ℕ} {plan : Plan} (given : Layable N S n plan) w
     );
   }
 
-  pub few_operations : Few plan
-  few_operations = record { norths = fits_norths.few; moves = fits_moves.few; souths = fits_souths.few }
-
   pub width : op_tracks (from_north plan) (from_south plan) ≡ width_for a b n
   width = width_is a b given.planned.norths same given.planned.souths
 
   pub narrow : width_for a b n ≤ widest_grid
-  narrow = omega (arith, few_tracks given.channel open_test, given.channel.columns)
+  narrow = omega (arith, few_tracks given.channel given.planned.wirable, given.channel.columns)
 
   consistent : Consistent n (column_pins N S) (from_north plan) (from_south plan)
-  consistent = planned given.channel open_test given.planned.norths same given.planned.souths given.several_norths
+  consistent = planned given.channel given.planned.wirable given.planned.norths same given.planned.souths given.several_norths
       given.several_souths
 
-  pub painted_legal : (w : ℕ) {before after : List ℕ} → w ≡ width_for a b n → ChannelDrawn N S n w (from_north plan) (from_south plan) before after
+  pub painted_legal : (w : ℕ) {before after : List ℕ} → w ≡ width_for a b n
+      → ChannelDrawn N S n w (from_north plan) (from_south plan) before after
       → Laid (upright n w 2) (column_pins N S) before after
   painted_legal w {before} {after} e y = record {
     legal = subst (λ (u : ℕ). Legal (upright n u 2) (column_pins N S) (wiring_of (upright n w 2) after)) (width ∙ sym e)

@@ -61,14 +61,6 @@ next_trunk o o' s c =
     let q : o.count + s - o.count ≡ s = omega arith in
     rw (le-ltb (o.count + s) o.count (omega arith), q)
 
--- ---- the tracks of a list
-
-pub down_own : (w first top : ℕ) → first ≤ w → top ≤ first → OwnTracks w top (track_from true first)
-down_own w first top h k = record { inside = λ s l. (omega arith, omega arith); apart = λ s r l m e. absurd (omega arith) }
-
-pub up_own : (w top : ℕ) → top ≤ w → OwnTracks w top (track_from false 1)
-up_own w top h = record { inside = λ s l. (omega arith, omega arith); apart = λ s r l m e. absurd (omega arith) }
-
 -- all lists together fit the tracks
 pub all_fit : (w : ℕ) (o m u : Ops) → w ≡ op_tracks (followed o m) u → o.count + m.count + u.count ≤ w
 all_fit w o m u e = omega arith

@@ -6,7 +6,8 @@ use mathlib.Core.List.{List}
 use native.Mathlib.Omega.{arith}
 use native.Mathlib.Decide.{dec_lt, dec_le}
 use native.Mathlib.Nat.{zero-mul, suc-mul, mul-le-mul_right, add-sub_cancel_left}
-use lib.ListN.{length, get_or}
+use lib.ListN.{length, get_or, replicate, length-replicate}
+use Rattle.std.proofs.lemmas.List.{get_or-replicate}
 use borrow.Author.Tests.{le-leb, lt-leb}
 use borrow.Rule.Slice.PartMut.{mid_of, put_mid}
 use Rattle.counting.specs.Counting.{In}
@@ -33,27 +34,26 @@ trunk_over x low high c a = elim (dec_le low c) [
   | no h ↦ trunk_under x low high c (omega arith)
 ]
 
-pub no_trunk : {part ys : List ℕ} (x low high : ℕ) → high < low → Striped part ys (length part) 1 (λ i j. 0)
-    → Striped part ys (length part) 1 (λ i j. trunk x low high (suc i))
-no_trunk x low high h s = record {
-  long = s.long;
-  here = λ i j hi hj. s.here i j hi hj ∙ sym (elim (dec_lt (suc i) low) [
-    | yes under ↦ trunk_under x low high (suc i) under
-    | no over ↦ trunk_over x low high (suc i) (omega arith)
-  ]);
-}
+filled : (part ys : List ℕ) (v : ℕ) → ys ≡ replicate (length part) v → Striped part ys (length part) 1 (λ i j. v)
+filled part ys v e = rw e (record {
+  long = length-replicate (length part) v;
+  here = λ i j hi hj. (let first : j ≡ 0 = omega arith in
+      get_or-replicate (length part) (j * length part + i) v 0 (rw first (omega (arith, zero-mul (length part)))));
+})
 
 pub trunk_put : {part zeros ys : List ℕ} {from to : ℕ} (x low high : ℕ) → 1 ≤ low → from ≡ low - 1 → to ≡ high → from < to
-    → to ≤ length part → Striped part zeros (length part) 1 (λ i j. 0)
-    → Striped (mid_of from (to - from) zeros) ys (length (mid_of from (to - from) zeros)) 1 (λ i j. x)
+    → to ≤ length part → zeros ≡ replicate (length part) 0 → ys ≡ replicate (length (mid_of from (to - from) zeros)) x
     → Striped part (put_mid from (to - from) zeros ys) (length part) 1 (λ i j. trunk x low high (suc i))
-trunk_put {part} {zeros} {ys} {from} {to} x low high one a b h fits z s = record { long = p.long ∙ z.long; here = at }
+trunk_put {part} {zeros} {ys} {from} {to} x low high one a b h fits blank some = record { long = p.long ∙ z.long; here = at }
   where
+    z : Striped part zeros (length part) 1 (λ i j. 0)
+    z = filled part zeros 0 blank
+
     after : List ℕ
     after = put_mid from (to - from) zeros ys
 
     p : Painted zeros after from (to - from) 1 (λ i j. x)
-    p = put_row zeros ys refl (omega (arith, z.long)) s
+    p = put_row zeros ys refl (omega (arith, z.long)) (filled (mid_of from (to - from) zeros) ys x some)
 
     at : (i j : ℕ) → i < length part → j < 1 → get_or after (j * length part + i) 0 ≡ trunk x low high (suc i)
     at i j hi hj =
@@ -96,10 +96,6 @@ module _ {n w : ℕ} where
   -- it lies in the buffer
   pub row_fits : (j l : ℕ) → 1 ≤ n → In j w → In l 2 → index (upright n w 2) 1 j l + n ≤ n * w * 2
   row_fits j l h hj hl = omega (arith, index_in (upright n w 2) n j l ((omega arith, omega arith), hj, hl))
-
-  pub row_end : {from columns : ℕ} (size j l : ℕ) → 1 ≤ n → In j w → In l 2 → n * w * 2 ≤ size → columns ≡ n
-      → from ≡ index (upright n w 2) 1 j l → from + columns ≤ size
-  row_end size j l h hj hl room all start = omega (arith, row_fits j l h hj hl)
 
   -- it is painted with f
   module _ (f : ℕ → ℕ) {xs ys : List ℕ} {from j l : ℕ} (start : from ≡ index (upright n w 2) 1 j l) (hj : In j w) (hl : In l 2)

@@ -1,7 +1,7 @@
 -- How the operations of a two-layer channel are drawn, as `draw` promises it and as the inner functions' contracts cite it.
 --
 --   trunk x low high                 what layer 2 holds in a track: net x from column low to column high, 0 elsewhere
---   OpsFit n o                       no more operations than an array holds, whose columns are those of a side of n places
+--   OpsFit n o                       operations whose columns are those of a side of n places
 --   track_from down first s          the track of operation s: that of operation 0 is `first`, the next ones go down or up from it
 --   OwnTracks w top track            each of operations 0 to top - 1 has a track of its own, of w tracks
 --   TrackDrawn g j f h before after  track j holds f on layer 1 and h on layer 2, and every other byte of the buffer is as it was
@@ -10,7 +10,6 @@
 --   ChannelDrawn north south n w down up before after    the operations are drawn, and "Bytes past n × w × k are untouched"
 use Rattle.std.specs.Prelude.{ℕ, ◌+◌, ◌-◌, ◌*◌, ◌≤◌, ◌<◌, ◌≡◌, ◌≢◌, Bool, cond, ◌&&◌, List, length, get_or, leb}
 use Rattle.counting.specs.Counting.{In}
-use Rattle.terms.specs.Limits.{largest_net}
 use Rattle.grid.specs.Grid.{Grid, upright, point, Inside}
 use Rattle.grid.specs.Legal.{wiring_of, column_pins}
 use Rattle.two_layer_law.specs.Cuts.{Ops, row_of, trunk_of, OpsDrawn}
@@ -19,7 +18,6 @@ abbrev pub trunk : ℕ → ℕ → ℕ → ℕ → ℕ
 trunk x low high c = cond (leb low c && leb c high) x 0
 
 pub record OpsFit (n : ℕ) (o : Ops) : Type 0 where
-  pub few : o.count ≤ largest_net
   pub column : (s : ℕ) → s < o.count → o.to s ≤ n
   pub ends : (s : ℕ) → s < o.count → (1 ≤ o.low s) × (o.high s ≤ n)
 

@@ -1,22 +1,26 @@
--- Operations and cuts as arrays.
+-- Operations as a list, and cuts as arrays.
 --
---   ops_of o         the arrays as operations
+--   no_operation     what is read past the end of a list of operations
+--   ops_of l         the list as operations
 --   column_entries   the entries of a row with one for each column and one for 0
 --   item list m      entry m of a list, counted from 0; 0 past its end
 --   Row n f list     entry c of the list is f c, for each of columns 1 to n and for 0
 use Rattle.std.specs.Prelude.{ℕ, ◌+◌, ◌≤◌, ◌≡◌, List, length, get_or}
 use Rattle.terms.specs.Limits.{longest_side}
 use Rattle.two_layer_law.specs.Cuts.{Ops}
-use Rattle.two_layer_cuts.specs.declared.Operations.{Operations}
+use Rattle.two_layer_cuts.specs.declared.Operation.{Operation}
 
-abbrev pub ops_of : Operations → Ops
-ops_of o =
+abbrev pub no_operation : Operation
+no_operation = record { net = 0; to = 0; low = 0; high = 0 }
+
+abbrev pub ops_of : List Operation → Ops
+ops_of l =
     record {
-      count = o.count;
-      net = λ s. get_or o.nets s 0;
-      to = λ s. get_or o.tos s 0;
-      low = λ s. get_or o.lows s 0;
-      high = λ s. get_or o.highs s 0;
+      count = length l;
+      net = λ s. (get_or l s no_operation).net;
+      to = λ s. (get_or l s no_operation).to;
+      low = λ s. (get_or l s no_operation).low;
+      high = λ s. (get_or l s no_operation).high;
     }
 
 abbrev pub column_entries : ℕ

@@ -2,25 +2,25 @@
 use Prim.Native.Nat.{ℕ, zero, suc, ◌+◌, ◌-◌, ◌≤◌, ◌<◌, min, max}
 use mathlib.Core.Path.{◌≡◌, refl, sym, ap, ◌∙◌}
 use mathlib.Core.Logic.{◌≢◌, by_cases}
-use mathlib.Core.List.{List}
-use mathlib.Core.Bool.{Bool, true, false, cond, and-eq-true_iff}
+use mathlib.Core.List.{List, [], ◌∷◌, ◌++◌}
+use mathlib.Core.Bool.{Bool, true, false, cond, not, and-eq-true_iff, false≢true}
 use native.Mathlib.Omega.{arith}
-use native.Mathlib.Numerals.{add-one}
 use native.Mathlib.Decide.{ℕ_discrete}
 use lib.Dec.{eqb, leb}
-use lib.ListN.{length, get_or, set}
+use lib.ListN.{length, get_or, set, length-append}
 use lib.Seq.{get_or-set_same, get_or-set_other}
-use borrow.Author.Tests.{eq-eqb, ne_eqb, le-leb, lt-leb, leb-true}
+use borrow.Author.Tests.{eq-eqb, ne_eqb, le-leb, leb-true}
 use Rattle.terms.specs.Limits.{byte_values, longest_side}
-use Rattle.counting.specs.Counting.{least}
+use Rattle.counting.specs.Counting.{In, least}
 use Rattle.two_layer_law.specs.Cuts.{cut_after}
 use Rattle.two_layer_law.specs.Moves.{MoveState, ready, wrong, spare, filling, blocked, moved, moved_to, next}
 use Rattle.two_layer_law.specs.Moves.{state_at, steps, moves_of, most_moves}
-use Rattle.two_layer_cuts.specs.Rows.{item, Row}
-use Rattle.two_layer_plan.specs.States.{state_of, Agree, out_of_way, Next}
+use Rattle.two_layer_cuts.specs.Rows.{ops_of, item, Row}
+use Rattle.two_layer_plan.specs.States.{state_of, Agree, Moved}
+use Rattle.two_layer_cuts.specs.declared.Operation.{Operation}
 use Rattle.two_layer_law.specs.Cuts.{Same}
-use Rattle.counting.proofs.Leasts.{least_le, least_same}
-use Rattle.two_layer_gather.proofs.Listing.{listed, Held, held_more}
+use Rattle.counting.proofs.Leasts.{least_le, least_same, least_in, least_zero}
+use Rattle.two_layer_gather.proofs.Listing.{Held, held_none, held_more}
 
 cond_with : {b b' : Bool} {x x' y y' : ℕ} → b ≡ b' → x ≡ x' → y ≡ y' → cond b x y ≡ cond b' x' y'
 cond_with e f g = rw (e, f, g)
@@ -80,58 +80,47 @@ agree_then h k = record { cuts = λ c b. h.cuts c b ∙ k.cuts c b; ats = λ m b
 
 -- ---- the next move
 
-pub out_here : (n : ℕ) (goal cut : ℕ → ℕ) (b : ℕ) → b ≡ least (wrong goal cut) n → 1 ≤ b → cut b ≡ out_of_way n goal cut
-out_here n goal cut b e l = rw (← e, le-leb 1 b l)
-
-pub out_none : (n : ℕ) (goal cut : ℕ → ℕ) (b : ℕ) → b ≡ least (wrong goal cut) n → b < 1 → 0 ≡ out_of_way n goal cut
-out_none n goal cut b e l = rw (← e, lt-leb 1 b l)
-
-module _ (n : ℕ) (goal cut at : ℕ → ℕ) (left : ℕ) (none : goal 0 ≡ 0) where
+module _ (n : ℕ) (goal cut at : ℕ → ℕ) (left : ℕ) where
   abbrev now : MoveState
   now = record { cut = cut; at = at; left = left }
 
-  filled : (f : ℕ) → 1 ≤ f → filling n goal now ≡ f → Next n goal cut at left (goal f) f
-  filled f l e = record { net = rw (e, le-leb 1 f l); column = rw (e, le-leb 1 f l) }
+  wanted : (f : ℕ) → ready goal cut f ≡ true → goal f ≢ 0
+  wanted f r z = absurd (omega (arith, leb-true 1 (goal f) ((and-eq-true_iff (leb 1 (goal f)) (eqb (cut f) 0)).0 r).0))
 
-  -- the column that the last move left is ready, and so is a column
-  pub next_left : ready goal cut left ≡ true → Next n goal cut at left (goal left) left
-  next_left r = filled left one (rw r)
-    where
-      one : 1 ≤ left
-      one = by_cases (ℕ_discrete left 0)
-          (λ z. absurd (omega (arith, leb-true 1 (goal left) ((and-eq-true_iff (leb 1 (goal left)) (eqb (cut left) 0)).0 r).0, ap goal z)))
-          (λ nz. omega (arith, nz))
+  filled : (f : ℕ) → 1 ≤ f → ready goal cut f ≡ true → filling n goal now ≡ f → Moved n goal cut at left (goal f) f
+  filled f l r e = record { net = rw (e, le-leb 1 f l); column = rw (e, le-leb 1 f l); some = wanted f r }
 
-  pub next_first : (f : ℕ) → ready goal cut left ≡ false → f ≡ least (ready goal cut) n → 1 ≤ f → Next n goal cut at left (goal f) f
-  next_first f r e l = filled f l (rw (r, ← e))
+  pub next_first : (f : ℕ) → ready goal cut left ≡ false → least (ready goal cut) n ≡ f → 1 ≤ f → Moved n goal cut at left (goal f) f
+  next_first f r e l = filled f l (least_in (ready goal cut) n f e (λ z. omega arith)).1 (rw (r, e))
 
-  pub next_blocked : (f x t : ℕ) → ready goal cut left ≡ false → f ≡ least (ready goal cut) n → f < 1 → x ≡ out_of_way n goal cut
-      → t ≡ least (spare goal cut) n → Next n goal cut at left x t
-  next_blocked f x t r e l ex et =
-      let z : filling n goal now ≡ 0 = rw (r, ← e) (omega arith) in
-      record { net = ex ∙ sym (rw z); column = et ∙ sym (rw z) }
+-- a column that is wrong and not ready holds a net
+pub wrong_held : (n : ℕ) (goal cut : ℕ → ℕ) (c : ℕ) → In c n → least (wrong goal cut) n ≡ c → least (ready goal cut) n ≡ 0 → cut c ≢ 0
+wrong_held n goal cut c i e none z =
+    let w = (least_in (wrong goal cut) n c e (λ q. omega arith)).1 in
+    let r = least_zero (ready goal cut) n c none i in
+    absurd (false≢true (sym r ∙ rw (eq-eqb (cut c) 0 z, ((and-eq-true_iff (leb 1 (goal c)) (not (eqb (cut c) (goal c)))).0 w).0)))
 
 -- ---- the moves made
 
-pub record MoveOf (n : ℕ) (goal : ℕ → ℕ) (st : MoveState) (s x t l h : ℕ) : Type 0 where
-  pub net : x ≡ moved n goal (state_at n goal st s)
-  pub to : t ≡ moved_to n goal (state_at n goal st s)
-  pub low : l ≡ min ((state_at n goal st s).at (moved n goal (state_at n goal st s))) (moved_to n goal (state_at n goal st s))
-  pub high : h ≡ max ((state_at n goal st s).at (moved n goal (state_at n goal st s))) (moved_to n goal (state_at n goal st s))
+pub record MoveOf (n : ℕ) (goal : ℕ → ℕ) (st : MoveState) (s : ℕ) (o : Operation) : Type 0 where
+  pub net : o.net ≡ moved n goal (state_at n goal st s)
+  pub to : o.to ≡ moved_to n goal (state_at n goal st s)
+  pub low : o.low ≡ min ((state_at n goal st s).at (moved n goal (state_at n goal st s))) (moved_to n goal (state_at n goal st s))
+  pub high : o.high ≡ max ((state_at n goal st s).at (moved n goal (state_at n goal st s))) (moved_to n goal (state_at n goal st s))
 
--- after s moves; with the moves still allowed they are as many as there are from the start
-pub record Moving (n : ℕ) (goal : ℕ → ℕ) (st : MoveState) (nets tos lows highs cut at : List ℕ) (left s : ℕ) : Type 0 where
-  pub agree : Agree n (state_at n goal st s) (state_of cut at left)
-  pub held : Held (MoveOf n goal st) nets tos lows highs s
-  pub rest : (f : ℕ) → s + f ≡ most_moves → s + steps n goal (state_at n goal st s) f ≡ steps n goal st most_moves
+-- after these moves; with the moves still allowed they are as many as there are from the start
+pub record Moving (n : ℕ) (goal : ℕ → ℕ) (st : MoveState) (made : List Operation) (cut at : List ℕ) (left : ℕ) : Type 0 where
+  pub agree : Agree n (state_at n goal st (length made)) (state_of cut at left)
+  pub held : Held (MoveOf n goal st) made
+  pub rest : (f : ℕ) → length made + f ≡ most_moves
+      → length made + steps n goal (state_at n goal st (length made)) f ≡ steps n goal st most_moves
 
 module _ (n : ℕ) (goal : ℕ → ℕ) (st : MoveState) where
-  pub moving_none : (nets tos lows highs cut at : List ℕ) → Held (MoveOf n goal st) nets tos lows highs 0 → Agree n st (state_of cut at 0)
-      → Moving n goal st nets tos lows highs cut at 0 0
+  pub moving_none : (cut at : List ℕ) → Agree n st (state_of cut at 0) → Moving n goal st [] cut at 0
   unfolding state_at
-  moving_none nets tos lows highs cut at held h = record {
+  moving_none cut at h = record {
     agree = h;
-    held = held;
+    held = held_none _;
     rest = λ f e. (let q : f ≡ most_moves = omega arith in rw q (omega arith));
   }
 
@@ -140,8 +129,8 @@ module _ (n : ℕ) (goal : ℕ → ℕ) (st : MoveState) where
   stopped u z zero = refl
   stopped u z (suc f) = rw z
 
-  module _ (nets tos lows highs cut at : List ℕ) (left s : ℕ) (m : Moving n goal st nets tos lows highs cut at left s) where
-    same_moves : s ≡ steps n goal st most_moves → Same (listed nets tos lows highs s) (moves_of n goal st (steps n goal st most_moves))
+  module _ (made : List Operation) (cut at : List ℕ) (left : ℕ) (m : Moving n goal st made cut at left) where
+    same_moves : length made ≡ steps n goal st most_moves → Same (ops_of made) (moves_of n goal st (steps n goal st most_moves))
     same_moves e = record {
       many = e;
       nets = λ k l. (m.held.is k l).net;
@@ -151,75 +140,85 @@ module _ (n : ℕ) (goal : ℕ → ℕ) (st : MoveState) where
     }
 
     -- no more moves are allowed
-    pub moving_full : s ≡ most_moves → Same (listed nets tos lows highs s) (moves_of n goal st (steps n goal st most_moves))
+    pub moving_full : length made ≡ most_moves → Same (ops_of made) (moves_of n goal st (steps n goal st most_moves))
     unfolding steps
     moving_full e = same_moves (let r = m.rest 0 (omega arith) in omega arith)
 
-    module _ (row : List ℕ) (is : Row n goal row) (inside : left ≤ n) (x t : ℕ)
-        (new : Next n (item row) (item cut) (item at) left x t) where
-      here : (state_at n goal st s).left ≤ n
+    module _ (row : List ℕ) (is : Row n goal row) (inside : left ≤ n) where
+      here : (state_at n goal st (length made)).left ≤ n
       here = omega (arith, m.agree.lefts)
 
       same : (c : ℕ) → c ≤ n → goal c ≡ item row c
       same c b = sym (is.is c b)
 
-      net_is : moved n goal (state_at n goal st s) ≡ x
-      net_is = moved_same n goal (item row) same (state_at n goal st s) (state_of cut at left) m.agree here ∙ sym new.net
-
-      to_is : moved_to n goal (state_at n goal st s) ≡ t
-      to_is = to_same n goal (item row) same (state_at n goal st s) (state_of cut at left) m.agree here ∙ sym new.column
+      net_same : moved n goal (state_at n goal st (length made)) ≡ moved n (item row) (state_of cut at left)
+      net_same = moved_same n goal (item row) same (state_at n goal st (length made)) (state_of cut at left) m.agree here
 
       -- all nets stand right
-      pub moving_done : s ≤ most_moves → x ≡ 0 → Same (listed nets tos lows highs s) (moves_of n goal st (steps n goal st most_moves))
-      moving_done l z = same_moves (let r = m.rest (most_moves - s) (omega arith) in
-          omega (arith, stopped (state_at n goal st s) (net_is ∙ z) (most_moves - s)))
+      pub moving_done : length made ≤ most_moves → moved n (item row) (state_of cut at left) ≡ 0
+          → Same (ops_of made) (moves_of n goal st (steps n goal st most_moves))
+      moving_done l z = same_moves (let r = m.rest (most_moves - length made) (omega arith) in
+          omega (arith, stopped (state_at n goal st (length made)) (net_same ∙ z) (most_moves - length made)))
 
-      one_move : s < most_moves → n ≤ longest_side → x ≢ 0 → x < byte_values → length at ≡ byte_values
-          → (cut' : List ℕ) → Row longest_side (cut_after x t (item cut)) cut' → (l h : ℕ) → l ≡ min (get_or at x 0) t → h ≡ max (get_or at x 0) t
-          → Moving n goal st (set nets s x) (set tos s t) (set lows s l) (set highs s h) cut' (set at x t) (get_or at x 0) (s + 1)
-      unfolding state_at steps next
-      one_move few short nz small room cut' row' l h el eh = rw add-one (record {
-        agree = agree_then
-            (next_same n goal (item row) same (state_at n goal st s) (state_of cut at left) m.agree here (omega (arith, net_is)))
-            stored;
-        held = rw add-one at (held_more (MoveOf n goal st) nets tos lows highs s x t l h m.held (omega arith) (record {
-          net = sym net_is;
-          to = sym to_is;
-          low = el ∙ ends min;
-          high = eh ∙ ends max;
-        }));
-        rest = λ f e. (let r = m.rest (suc f) (omega arith) in
-            omega (arith, r, one_more f));
-      })
-        where
-          one_more : (f : ℕ) → steps n goal (state_at n goal st s) (suc f) ≡ suc (steps n goal (next n goal (state_at n goal st s)) f)
-          one_more f = rw (le-leb 1 (moved n goal (state_at n goal st s)) (omega (arith, net_is, nz)))
+      module _ (x t : ℕ) (new : Moved n (item row) (item cut) (item at) left x t) where
+        net_is : moved n goal (state_at n goal st (length made)) ≡ x
+        net_is = net_same ∙ sym new.net
 
-          ends : (g : ℕ → ℕ → ℕ) → g (get_or at x 0) t ≡ g ((state_at n goal st s).at (moved n goal (state_at n goal st s)))
-              (moved_to n goal (state_at n goal st s))
-          ends g =
-              ap (λ (k : ℕ). g k t) (sym (m.agree.ats x small) ∙ ap (state_at n goal st s).at (sym net_is))
-              ∙ ap (g ((state_at n goal st s).at (moved n goal (state_at n goal st s)))) (sym to_is)
+        to_is : moved_to n goal (state_at n goal st (length made)) ≡ t
+        to_is = to_same n goal (item row) same (state_at n goal st (length made)) (state_of cut at left) m.agree here ∙ sym new.column
 
-          stored : Agree n (next n (item row) (state_of cut at left)) (state_of cut' (set at x t) (get_or at x 0))
-          stored = record {
-            cuts = λ c b. rw (← new.net, ← new.column) (sym (row'.is c (omega arith)));
-            ats = λ k b. rw (← new.net, ← new.column) (by_cases (ℕ_discrete k x)
-                (λ e. rw (e, eq-eqb x x refl) (sym (get_or-set_same at x t 0 (omega arith))))
-                (λ d. rw (ne_eqb k x d) (sym (get_or-set_other at x k t 0 d))));
-            lefts = ap (item at) (sym new.net);
-          }
+        one_move : length made < most_moves → n ≤ longest_side → x < byte_values → length at ≡ byte_values
+            → (cut' : List ℕ) → Row longest_side (cut_after x t (item cut)) cut' → (o : Operation) → o.net ≡ x → o.to ≡ t
+            → o.low ≡ min (get_or at x 0) t → o.high ≡ max (get_or at x 0) t
+            → Moving n goal st (made ++ o ∷ []) cut' (set at x t) (get_or at x 0)
+        unfolding state_at steps next
+        one_move few short small room cut' row' o eo et el eh = record {
+          agree = rw one_longer (agree_then
+              (next_same n goal (item row) same (state_at n goal st (length made)) (state_of cut at left) m.agree here
+              (omega (arith, net_is)))
+              stored);
+          held = held_more (MoveOf n goal st) made o m.held (record {
+            net = eo ∙ sym net_is;
+            to = et ∙ sym to_is;
+            low = el ∙ ends min;
+            high = eh ∙ ends max;
+          });
+          rest = rw one_longer (λ f e. (let r = m.rest (suc f) (omega arith) in omega (arith, r, one_more f)));
+        }
+          where
+            one_longer : length (made ++ o ∷ []) ≡ suc (length made)
+            one_longer = omega (arith, length-append made (o ∷ []))
 
-      -- k is the net as the place of its entry, and the column from which it is moved is read there
-      pub moving_more : s < most_moves → n ≤ longest_side → x ≢ 0 → length at ≡ byte_values → (k from : ℕ) → k ≡ x
-          → k < byte_values → from ≡ get_or at k 0 → (cut' : List ℕ) → Row longest_side (cut_after x t (item cut)) cut'
-          → (l h : ℕ) → l ≡ min (get_or at k 0) t → h ≡ max (get_or at k 0) t
-          → Moving n goal st (set nets s x) (set tos s t) (set lows s l) (set highs s h) cut' (set at k t) from (s + 1)
-      moving_more few short nz room k from ek small ef cut' row' l h el eh =
-          rw (ef, ek) (one_move few short nz (omega arith) room cut' row' l h (rw ek at el) (rw ek at eh))
+            one_more : (f : ℕ) → steps n goal (state_at n goal st (length made)) (suc f)
+                ≡ suc (steps n goal (next n goal (state_at n goal st (length made))) f)
+            one_more f = rw (le-leb 1 (moved n goal (state_at n goal st (length made))) (omega (arith, net_is, new.some)))
+
+            ends : (g : ℕ → ℕ → ℕ) → g (get_or at x 0) t
+                ≡ g ((state_at n goal st (length made)).at (moved n goal (state_at n goal st (length made))))
+                (moved_to n goal (state_at n goal st (length made)))
+            ends g =
+                ap (λ (k : ℕ). g k t) (sym (m.agree.ats x small) ∙ ap (state_at n goal st (length made)).at (sym net_is))
+                ∙ ap (g ((state_at n goal st (length made)).at (moved n goal (state_at n goal st (length made))))) (sym to_is)
+
+            stored : Agree n (next n (item row) (state_of cut at left)) (state_of cut' (set at x t) (get_or at x 0))
+            stored = record {
+              cuts = λ c b. rw (← new.net, ← new.column) (sym (row'.is c (omega arith)));
+              ats = λ k b. rw (← new.net, ← new.column) (by_cases (ℕ_discrete k x)
+                  (λ e. rw (e, eq-eqb x x refl) (sym (get_or-set_same at x t 0 (omega arith))))
+                  (λ d. rw (ne_eqb k x d) (sym (get_or-set_other at x k t 0 d))));
+              lefts = ap (item at) (sym new.net);
+            }
+
+        -- k is the net as the place of its entry, and the column from which it is moved is read there
+        pub moving_more : length made < most_moves → n ≤ longest_side → length at ≡ byte_values → (k from : ℕ) → k ≡ x → k < byte_values
+            → from ≡ get_or at k 0 → (cut' : List ℕ) → Row longest_side (cut_after x t (item cut)) cut' → (o : Operation) → o.net ≡ x
+            → o.to ≡ t → o.low ≡ min (get_or at k 0) t → o.high ≡ max (get_or at k 0) t
+            → Moving n goal st (made ++ o ∷ []) cut' (set at k t) from
+        moving_more few short room k from ek small ef cut' row' o eo et el eh =
+            rw (ef, ek) (one_move few short (omega arith) room cut' row' o eo et (rw ek at el) (rw ek at eh))
 
 -- every net's column stays one of the channel's
-pub next_le : (n : ℕ) (goal cut at : ℕ → ℕ) (left x t : ℕ) → left ≤ n → Next n goal cut at left x t → t ≤ n
+pub next_le : (n : ℕ) (goal cut at : ℕ → ℕ) (left x t : ℕ) → left ≤ n → Moved n goal cut at left x t → t ≤ n
 next_le n goal cut at left x t l new =
     rw new.column (to_le n goal goal (λ c b. refl) (record { cut = cut; at = at; left = left }) _ same_state l)
   where

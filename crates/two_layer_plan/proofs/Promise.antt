@@ -1,8 +1,12 @@
 -- What the tables and rows of both sides tell is what the definitions ask for.
-use Prim.Native.Nat.{ℕ, ◌≤◌}
+use Prim.Native.Nat.{ℕ, suc, ◌+◌, ◌≤◌}
+use native.Mathlib.Numerals.{add-one}
+use Rattle.std.specs.Prelude.{Option, None, Some}
+use Rattle.std.specs.Option.{unwrap_or}
+use Rattle.counting.specs.Counting.{some, every, least}
 use mathlib.Core.Path.{◌≡◌, refl, sym, ap, ◌∙◌}
 use mathlib.Core.List.{List}
-use mathlib.Core.Bool.{Bool, not, ◌&&◌}
+use mathlib.Core.Bool.{Bool, true, false, not, ◌&&◌, ◌||◌}
 use native.Mathlib.Omega.{arith}
 use native.Mathlib.Decide.{dec_le}
 use lib.Dec.{eqb, leb}
@@ -12,7 +16,7 @@ use Rattle.grid.specs.Legal.{entry}
 use Rattle.two_layer_law.specs.Moves.{first_on, leads, solid_test, start_of}
 use Rattle.two_layer_cuts.specs.Rows.{item, Row}
 use Rattle.two_layer_gather.specs.Tables.{Table}
-use Rattle.two_layer_plan.specs.States.{state_of, Agree, leads_solid}
+use Rattle.two_layer_plan.specs.States.{state_of, Agree, leads_solid, LeastFound}
 use Rattle.counting.proofs.Leasts.{least_le}
 use Rattle.counting.proofs.Tests.{some_same}
 use Rattle.two_layer_gather.proofs.Tables.{lead_zero}
@@ -42,3 +46,18 @@ solid_same a b n cut goal r s = both_same
   where
     both_same : {x x' y y' : Bool} → x ≡ x' → y ≡ y' → (x && y) ≡ (x' && y')
     both_same e f = rw (e, f)
+
+-- one more column is tested
+pub every_more : (t : ℕ → Bool) (c : ℕ) (x : Bool) → x ≡ every t c → (x && t (c + 1)) ≡ every t (c + 1)
+unfolding some
+every_more t c x e = rw (e, add-one) (opposite (some (λ a. not (t a)) c) (t (suc c)))
+  where
+    opposite : (a b : Bool) → (not a && b) ≡ not (a || not b)
+    opposite true b = refl
+    opposite false true = refl
+    opposite false false = refl
+
+-- the number of the column that is found, or 0
+pub found_or : (t : ℕ → Bool) (n : ℕ) (r : Option ℕ) → LeastFound t n r → unwrap_or r 0 ≡ least t n
+found_or t n None e = sym e
+found_or t n (Some c) e = sym e

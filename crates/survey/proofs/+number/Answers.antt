@@ -1,34 +1,30 @@
--- `survey::number` meets its contract: by recursion on the number, the digits before the last and then the last.
-use Prim.Native.Nat.{◌+◌, ◌/◌, ◌%◌}
-use mathlib.Core.Path.{ap}
-use mathlib.Core.List.{[], ◌∷◌}
-use native.Mathlib.Omega.{arith}
-use lib.ListN.{length, length-append}
-use Rattle.output.proofs.Laws.{adds_adds}
+-- `survey::number`: by recursion on the number, the digits before the last and then the last.
+use Rattle.std.proofs.Common.{◌≡◌, ◌++◌, ap, ◌∙◌, length, arith, append_assoc, length-append, [], ◌∷◌, ◌+◌, ◌/◌, ◌%◌}
+use Rattle.arrayvec.specs.ArrayVec.{array_vec_len}
 use Rattle.survey.specs.Line.{decimal}
-use Rattle.survey.proofs.Lines.{decimal_one, decimal_more}
+use Rattle.survey.proofs.Lines.{decimal_last, decimal_more, decimal_grows}
 use Rattle.survey.proofs.+number.Goals as goal
+use Rattle.survey.proofs.+number.Goals.{then-x-ge10, else-x-ge10}
 
-pub put-requires : goal.put-requires
-put-requires t c =
-    let e = decimal_one c.args.x c.if-x-lt10.true in omega (arith, c.requires, ap length e)
+pub number-requires : goal.number-requires
+number-requires t c =
+    (omega (arith, c.decreases, c.if-x-ge10.true), omega (arith, c.requires, decimal_grows c.args.x c.if-x-ge10.true))
 
-pub returns-then-x-lt10 : goal.returns-then-x-lt10
-returns-then-x-lt10 t c =
-    rw (decimal_one c.args.x c.if-x-lt10.true) c.put.ensures
-
-pub number-front-requires : goal.number-front-requires
-number-front-requires t c =
-    let x = c.args.x in
-    let e = decimal_more x c.if-x-lt10.false in
-    (omega (arith, c.decreases), omega (arith, c.requires, ap length e, length-append (decimal (x / 10)) ((48 + x % 10) ∷ [])))
-
-pub put-requires-2 : goal.put-requires-2
-put-requires-2 t c =
-    let x = c.args.x in
-    let e = decimal_more x c.if-x-lt10.false in
-    omega (arith, c.number-front.ensures.size, c.requires, ap length e, length-append (decimal (x / 10)) ((48 + x % 10) ∷ []))
+pub push-requires : goal.push-requires
+push-requires t c = elim c.if-x-ge10.branch [
+  | then-x-ge10 w ↦
+      (omega arith, omega (arith, c.requires, ap array_vec_len w.line-is, w.number.ensures.size, decimal_grows c.args.x w.if-x-ge10.true))
+  | else-x-ge10 w ↦
+      (omega arith, omega (arith, c.requires, ap array_vec_len w.line-is, ap length (decimal_last c.args.x w.if-x-ge10.false)))
+]
 
 pub returns : goal.returns
 returns t c =
-    rw (decimal_more c.args.x c.if-x-lt10.false) (adds_adds c.number-front.ensures c.put-2.ensures)
+    let x = c.args.x in
+    let before = c.args.line.now.items in
+    let adds : c.push.new.self.items ≡ before ++ decimal x =
+    elim c.if-x-ge10.branch [
+      | then-x-ge10 w ↦ cc (decimal_more x w.if-x-ge10.true, append_assoc before (decimal (x / 10)) ((48 + x % 10) ∷ []))
+      | else-x-ge10 w ↦ cc (decimal_last x w.if-x-ge10.false)
+    ] in
+    record { adds = adds; size = ap length adds ∙ length-append before (decimal x) }

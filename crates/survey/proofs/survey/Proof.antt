@@ -26,7 +26,7 @@ returns-2 c =
     let q = c.parse_spans-t.result.problem in
     let read = c.parse_spans-t.ensures in
     let good = reading_good _ read.0 c.if-refusal-ne0.false in
-    let total = c.pin_total-pins.ensures ∙ total_filled q c.parse_spans-t.result.spans good.columns.1 (width_in good).1 good.ends
+    let total = c.pin_count-pins.ensures ∙ total_filled q c.parse_spans-t.result.spans good.columns.1 (width_in good).1 good.ends
     (read.1 c.if-refusal-ne0.false) good.numbered in
     simp (eq-eqb _ _ c.if-refusal-ne0.false) (c.answered.ensures ∙ ap₂ (λ (f : Figures) (k : ℕ). answered q f k) c.figures_of-figures.ensures total)
     ∙ ap surveyed read.0

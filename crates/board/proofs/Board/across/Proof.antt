@@ -1,5 +1,5 @@
 -- `board::Board::across` meets its contract: the largest stored figure, which is Survey's.
-use mathlib.Core.Path.{◌≡◌, ◌∙◌}
+use mathlib.Core.Path.{◌∙◌}
 use borrow.Author.Rules.{rules}
 use Rattle.board_law.specs.Counts.{stored_across}
 use Rattle.board_law.proofs.Stored.{stored_across_lem}

@@ -1,0 +1,8 @@
+-- The columns passed have told the first of each net.
+use Rattle.grid.specs.Legal.{entry}
+use Rattle.two_layer_law.specs.Moves.{first_on}
+use Rattle.two_layer_gather.specs.Tables.{Table}
+use Rattle.two_layer_gather.proofs.firsts.Given as goal
+
+abbrev pub invariant-loop-i : goal.invariant-loop-i
+invariant-loop-i l = Table (first_on (entry l.side) l.i) l.first
