@@ -4,6 +4,7 @@ use Prim.Native.Nat.{ℕ, ◌*◌, ◌≤◌, ◌<◌}
 use mathlib.Core.Path.{◌≡◌, refl, sym, ap, ap₂, ◌∙◌, subst}
 use mathlib.Core.Logic.{◌⊎◌, inl, inr, ◌≢◌}
 use mathlib.Core.Bool.{true, false}
+use Rattle.std.specs.Option.{is_none}
 use mathlib.Core.List.{List}
 use native.Mathlib.Omega.{arith}
 use Rattle.counting.specs.Counting.{In}
@@ -25,7 +26,8 @@ use Rattle.two_layer_law.proofs.Unwired.{unwired}
 use Rattle.two_layer_law.specs.Channels.{Several}
 use Rattle.two_layer_law.proofs.Planning.{few_tracks}
 use Rattle.two_layer_plan.specs.declared.Plan.{Plan}
-use Rattle.two_layer_plan.specs.Plan.{Operated}
+use Rattle.two_layer_plan.specs.Plan.{Planned}
+use Rattle.two_layer_plan.proofs.Promise.{solid_told}
 use Rattle.two_layer.specs.Given.{from_north, from_south, Layable}
 use Rattle.two_layer.proofs.Laying.{width}
 use Rattle.router.specs.Lay.{laid_width, needed, laid_answer, laid_grid}
@@ -113,20 +115,22 @@ module _ (q : Problem) (good : Good q) (two : q.kind ≡ two_layer) where
   narrow e = omega (arith, few e, good.columns)
 
   -- what is computed from the plan is what the answer says
-  module _ {plan : Plan} (found : Operated (p north) (p south) n plan) where
-    pub wirable : solid p n ≡ false
-    wirable = solid_is ∙ found.wirable
+  module _ {plan : Plan} (found : Planned (p north) (p south) n plan) where
+    pub solid_found : is_none plan.moves ≡ solid p n
+    solid_found = solid_told found ∙ sym solid_is
 
-    pub given : Layable q.pins.north q.pins.south n plan
-    given = record {
-      channel = subst (Channel n) (sym (two_sided q bare_west bare_east)) channel_of;
-      several_norths = several_norths;
-      several_souths = several_souths;
-      planned = found;
-    }
+    module _ (wirable : is_none plan.moves ≡ false) where
+      pub given : Layable q.pins.north q.pins.south n plan
+      given = record {
+        channel = subst (Channel n) (sym (two_sided q bare_west bare_east)) channel_of;
+        several_norths = several_norths;
+        several_souths = several_souths;
+        planned = found;
+        wirable = sym solid_is ∙ sym solid_found ∙ wirable;
+      }
 
-    pub tracks_laid : (w : ℕ) → w ≡ op_tracks (from_north plan) (from_south plan) → w ≡ width_for (p north) (p south) n
-    tracks_laid w e = e ∙ width given
+      pub tracks_laid : (w : ℕ) → w ≡ op_tracks (from_north plan) (from_south plan) → w ≡ width_for (p north) (p south) n
+      tracks_laid w e = e ∙ width given
 
   module _ (w : ℕ) (e : w ≡ width_for (p north) (p south) n) (f : Figures) (same : f ≡ figures_of q) where
     pub two_layers : f.layers.0 ≡ 2

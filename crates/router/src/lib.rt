@@ -119,12 +119,13 @@ fn lay_two_layer(q: &Problem, spans: &Spans, f: Figures, wiring: &mut [u8]) -> L
     requires spans { SpansOf q.now spans.now }
     ensures { Outcome q.now wiring.old wiring.new result }
 {
-    let Some(plan) = two_layer_plan::find_plan(&q.pins, spans, q.n) else {
+    let plan = two_layer_plan::find_plan(&q.pins, spans, q.n);
+    if plan.moves.is_none() {
         return refused(Refusal {
             number: 17,
             place: 0,
         });
-    };
+    }
     let tracks = two_layer::tracks(&plan);
     let length = grid::points(q.n, tracks, f.layers);
     if wiring.len() < length {

@@ -9,14 +9,14 @@ ghost use Rattle.grid.specs.Legal.{entry, column_pins};
 ghost use Rattle.grid.specs.Laid.{Laid};
 ghost use Rattle.paint.specs.Paint.{Striped};
 ghost use Rattle.two_layer_law.specs.Cuts.{cut_with, cut_of, op_tracks};
-ghost use Rattle.two_layer_cuts.specs.Rows.{ops_of, item, Row};
+ghost use Rattle.two_layer_cuts.specs.Rows.{operations_in, ops_of, item, Row};
 ghost use Rattle.two_layer_law.specs.Moves.{width_for};
-ghost use Rattle.two_layer.specs.Given.{from_north, from_south, Layable};
+ghost use Rattle.two_layer.specs.Given.{moves_in, from_north, from_south, Layable};
 ghost use Rattle.two_layer.specs.Drawing.{trunk, OpsFit, track_from, OwnTracks, TrackDrawn, ListDrawn, ChannelDrawn};
 
 use grid::{Column, Layer, Track, column_count, index_of, track_count};
 use problem::Pins;
-use two_layer_cuts::{COLUMN_ENTRIES, Operation, cut_after, cut_of};
+use two_layer_cuts::{COLUMN_ENTRIES, Operation, Operations, cut_after, cut_of};
 use two_layer_plan::Plan;
 
 // The bytes of a track on layer 1: the row's entries from column 1 on.
@@ -103,13 +103,23 @@ fn draw_list(
     cut
 }
 
+// The moves, of which a solid channel has none.
+fn moves_in(moves: &Option<Operations>) -> &[Operation]
+    ensures { result.now ≡ moves_in moves.now }
+{
+    match moves {
+        Some(moves) => moves.as_slice(),
+        None => &[],
+    }
+}
+
 // The channel's operations, one track each: those of the north pins and the moves from the top down, those of the south pins from track 1
 // up. Track 1 first holds the north pins, which is all of a channel without an operation.
 fn draw(pins: &Pins, n: Column, w: Track, plan: &Plan, wiring: &mut [u8])
     requires fact { In n.0 longest_side × (w.0 ≤ widest_grid) × (n.0 * w.0 * 2 ≤ length wiring.old) }
     requires w_value { w.0 ≡ op_tracks (from_north plan.now) (from_south plan.now) }
-    requires ops_fit { OpsFit n.0 (ops_of plan.now.norths.items) × OpsFit n.0 (ops_of plan.now.moves.items) ×
-        OpsFit n.0 (ops_of plan.now.souths.items) }
+    requires ops_fit { OpsFit n.0 (ops_of (operations_in plan.now.norths)) × OpsFit n.0 (ops_of (moves_in plan.now.moves)) ×
+        OpsFit n.0 (ops_of (operations_in plan.now.souths)) }
     ensures { ChannelDrawn pins.now.north pins.now.south n.0 w.0 (from_north plan.now) (from_south plan.now) wiring.old
         wiring.new }
 {
@@ -122,18 +132,20 @@ fn draw(pins: &Pins, n: Column, w: Track, plan: &Plan, wiring: &mut [u8])
         high: 0,
     };
     draw_track(start, idle, Track(1), n, w, wiring);
-    let gathered = draw_list(start, &plan.norths, true, top, n, w, wiring);
-    let next = top - plan.norths.len();
-    draw_list(gathered, &plan.moves, true, next, n, w, wiring);
+    let norths = plan.norths.as_slice();
+    let moves = moves_in(&plan.moves);
+    let gathered = draw_list(start, norths, true, top, n, w, wiring);
+    draw_list(gathered, moves, true, top - norths.len(), n, w, wiring);
     let end = cut_of(&pins.south);
-    draw_list(end, &plan.souths, false, 1, n, w, wiring);
+    draw_list(end, plan.souths.as_slice(), false, 1, n, w, wiring);
 }
 
 // The tracks that a channel's operations take.
 pub fn tracks(plan: &Plan) -> Track
     ensures { result.0 ≡ op_tracks (from_north plan.now) (from_south plan.now) }
 {
-    Track((plan.norths.len() + plan.moves.len() + plan.souths.len()).max(1))
+    let moves = plan.moves.as_ref().map_or(0, |moves| moves.len());
+    Track((plan.norths.len() + moves + plan.souths.len()).max(1))
 }
 
 // Lays a channel that is not solid, by the operations that were found for it.

@@ -1,14 +1,19 @@
 -- Operations as a list, and cuts as arrays.
 --
+--   operations_in o  the operations that the array holds: the first so many as are counted
 --   no_operation     what is read past the end of a list of operations
 --   ops_of l         the list as operations
 --   column_entries   the entries of a row with one for each column and one for 0
 --   item list m      entry m of a list, counted from 0; 0 past its end
 --   Row n f list     entry c of the list is f c, for each of columns 1 to n and for 0
-use Rattle.std.specs.Prelude.{ℕ, ◌+◌, ◌≤◌, ◌≡◌, List, length, get_or}
+use Rattle.std.specs.Prelude.{ℕ, ◌+◌, ◌≤◌, ◌≡◌, List, length, get_or, take}
 use Rattle.terms.specs.Limits.{longest_side}
 use Rattle.two_layer_law.specs.Cuts.{Ops}
 use Rattle.two_layer_cuts.specs.declared.Operation.{Operation}
+use Rattle.two_layer_cuts.specs.declared.list.Operations.{Operations}
+
+unfoldable pub operations_in : Operations → List Operation
+operations_in o = take o.count o.items
 
 abbrev pub no_operation : Operation
 no_operation = record { net = 0; to = 0; low = 0; high = 0 }

@@ -1,5 +1,5 @@
-// What a two-layer channel is planned and drawn from: operations; cuts as arrays, with an entry for each column and one for 0, which is
-// none. All functions here are for our own crates.
+// What a two-layer channel is planned and drawn from: lists of operations; cuts as arrays, with an entry for each column and one for 0,
+// which is none. All functions here are for our own crates.
 #![tactic(auto)]
 
 ghost use Rattle.std.specs.Prelude.{◌≤◌};
@@ -8,8 +8,11 @@ ghost use Rattle.grid.specs.Legal.{entry};
 ghost use Rattle.two_layer_law.specs.Cuts.{cut_after};
 ghost use Rattle.two_layer_cuts.specs.Rows.{item, Row};
 
-use arrayvec::ArrayVec;
-use terms::{LARGEST_NET, LONGEST_SIDE};
+use terms::LONGEST_SIDE;
+
+mod list;
+
+pub use list::Operations;
 
 // A net, the column that it is brought to, and the ends of its trunk.
 // Kept: column 0 for none, as the definition `Ops` of two_layer_law counts columns, so that drawing has no branch for it.
@@ -20,8 +23,6 @@ pub struct Operation {
     pub low: u8,
     pub high: u8,
 }
-
-pub type Operations = ArrayVec<Operation, LARGEST_NET>;
 
 pub const COLUMN_ENTRIES: usize = LONGEST_SIDE + 1;
 

@@ -7,7 +7,7 @@ ghost use Rattle.terms.specs.Limits.{longest_side};
 ghost use Rattle.grid.specs.Legal.{entry};
 ghost use Rattle.nets.specs.Tables.{pin_count_to, NetTable};
 ghost use Rattle.two_layer_law.specs.Moves.{first_on, last_on, leads, Gathered};
-ghost use Rattle.two_layer_cuts.specs.Rows.{ops_of, Row};
+ghost use Rattle.two_layer_cuts.specs.Rows.{operations_in, ops_of, Row};
 ghost use Rattle.two_layer_gather.specs.Tables.{Table};
 
 use terms::{BYTE_VALUES, LARGEST_NET, LONGEST_SIDE, NET_ENTRIES};
@@ -76,7 +76,7 @@ fn gather(
     other: &[u8; BYTE_VALUES],
 ) -> Operations
     ensures { (a b : ℕ → ℕ) (n : ℕ) → NetTable (pin_count_to a n) pins.now → Table (first_on a n) first.now →
-        Table (last_on a n) last.now → Table (first_on b n) other.now → Gathered a b n (ops_of result.items) }
+        Table (last_on a n) last.now → Table (first_on b n) other.now → Gathered a b n (ops_of (operations_in result)) }
 {
     let mut found = Operations::new();
     for i in 0..LARGEST_NET {
@@ -106,7 +106,7 @@ pub fn gather_side(
     requires { n ≤ longest_side }
     ensures { (b : ℕ → ℕ) → NetTable (pin_count_to (entry side.now) n) pins.now →
         Table (first_on (entry side.now) n) first.now → Table (first_on b n) other.now →
-        Gathered (entry side.now) b n (ops_of result.items) }
+        Gathered (entry side.now) b n (ops_of (operations_in result)) }
 {
     gather(pins, first, &lasts(side, n), other)
 }

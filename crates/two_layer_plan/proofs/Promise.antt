@@ -2,7 +2,7 @@
 use Prim.Native.Nat.{ℕ, suc, ◌+◌, ◌≤◌}
 use native.Mathlib.Numerals.{add-one}
 use Rattle.std.specs.Prelude.{Option, None, Some}
-use Rattle.std.specs.Option.{unwrap_or}
+use Rattle.std.specs.Option.{is_none, unwrap_or}
 use Rattle.counting.specs.Counting.{some, every, least}
 use mathlib.Core.Path.{◌≡◌, refl, sym, ap, ◌∙◌}
 use mathlib.Core.List.{List}
@@ -14,9 +14,12 @@ use lib.ListN.{get_or, get_or-eq_default}
 use Rattle.terms.specs.Limits.{byte_values}
 use Rattle.grid.specs.Legal.{entry}
 use Rattle.two_layer_law.specs.Moves.{first_on, leads, solid_test, start_of}
+use Rattle.two_layer_cuts.specs.declared.list.Operations.{Operations}
 use Rattle.two_layer_cuts.specs.Rows.{item, Row}
 use Rattle.two_layer_gather.specs.Tables.{Table}
 use Rattle.two_layer_plan.specs.States.{state_of, Agree, leads_solid, LeastFound}
+use Rattle.two_layer_plan.specs.declared.Plan.{Plan}
+use Rattle.two_layer_plan.specs.Plan.{MovesFound, Planned}
 use Rattle.counting.proofs.Leasts.{least_le}
 use Rattle.counting.proofs.Tests.{some_same}
 use Rattle.two_layer_gather.proofs.Tables.{lead_zero}
@@ -61,3 +64,11 @@ every_more t c x e = rw (e, add-one) (opposite (some (λ a. not (t a)) c) (t (su
 pub found_or : (t : ℕ → Bool) (n : ℕ) (r : Option ℕ) → LeastFound t n r → unwrap_or r 0 ≡ least t n
 found_or t n None e = sym e
 found_or t n (Some c) e = sym e
+
+-- a plan without moves tells that the channel is solid
+pub solid_told : {a b : ℕ → ℕ} {n : ℕ} {plan : Plan} → Planned a b n plan → is_none plan.moves ≡ solid_test a b n
+solid_told {a} {b} {n} {plan} p = told plan.moves p.moves
+  where
+    told : (moves : Option Operations) → MovesFound a b n moves → is_none moves ≡ solid_test a b n
+    told None e = sym e
+    told (Some made) e = sym e.0

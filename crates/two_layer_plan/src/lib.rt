@@ -10,7 +10,7 @@ ghost use Rattle.grid.specs.Legal.{entry};
 ghost use Rattle.nets.specs.Tables.{pin_count_to, NetTable};
 ghost use Rattle.two_layer_law.specs.Cuts.{Same};
 ghost use Rattle.two_layer_law.specs.Moves.{ready, MoveState, steps, moves_of, most_moves};
-ghost use Rattle.two_layer_cuts.specs.Rows.{ops_of, item, Row};
+ghost use Rattle.two_layer_cuts.specs.Rows.{operations_in, ops_of, item, Row};
 ghost use Rattle.two_layer_plan.specs.States.{state_of, Agree, leads_solid, LeastFound, Unblocked, Next};
 ghost use Rattle.two_layer_plan.specs.Plan.{Planned};
 
@@ -21,12 +21,12 @@ use terms::BYTE_VALUES;
 use two_layer_cuts::{COLUMN_ENTRIES, Operation, Operations, cut_after};
 use two_layer_gather::{firsts, gather_side, leads};
 
-// The operations of a channel that is not solid: nets of several north pins are gathered, nets are moved, nets of several south pins are
-// gathered, which is drawn from the south upwards.
-#[derive(Drop)]
+// The operations of a channel: nets of several north pins are gathered, nets are moved, nets of several south pins are gathered, which is
+// drawn from the south upwards. A solid channel has no moves: no wiring of it is legal.
+#[derive(Clone, Copy)]
 pub struct Plan {
     pub norths: Operations,
-    pub moves: Operations,
+    pub moves: Option<Operations>,
     pub souths: Operations,
 }
 
@@ -126,7 +126,7 @@ fn find_moves(
 ) -> Operations
     requires { (n ≤ longest_side) × (get_or goal.now 0 0 ≡ 0) × ((m : ℕ) → get_or at m 0 ≤ n) }
     ensures { (goal' : ℕ → ℕ) (st : MoveState) → Row n goal' goal.now → Agree n st (state_of cut at 0) →
-        Same (ops_of result.items) (moves_of n goal' st (steps n goal' st most_moves)) }
+        Same (ops_of (operations_in result)) (moves_of n goal' st (steps n goal' st most_moves)) }
 {
     let mut made = Operations::new();
     // Kept: column 0 before the first move, as the definition `start_of` of two_layer_law has it.
@@ -152,8 +152,8 @@ fn find_moves(
 
 // ---- the plan
 
-// The operations of a channel of length n: none where it is solid, since no wiring of it is legal then.
-pub fn find_plan(pins: &Pins, spans: &Spans, n: Column) -> Option<Plan>
+// The operations of a channel of length n: in a solid one no net is moved.
+pub fn find_plan(pins: &Pins, spans: &Spans, n: Column) -> Plan
     requires { (n.0 ≤ longest_side) × NetTable (pin_count_to (entry pins.now.north) n.0) spans.now.columns.one ×
         NetTable (pin_count_to (entry pins.now.south) n.0) spans.now.columns.two }
     ensures { Planned (entry pins.now.north) (entry pins.now.south) n.0 result }
@@ -161,17 +161,21 @@ pub fn find_plan(pins: &Pins, spans: &Spans, n: Column) -> Option<Plan>
     let columns = column_count(n);
     let first = firsts(&pins.north, columns);
     let other = firsts(&pins.south, columns);
+    let norths = gather_side(&pins.north, &spans.columns.one, &first, &other, columns);
+    let souths = gather_side(&pins.south, &spans.columns.two, &other, &first, columns);
     let cut = leads(&pins.north, &first, &other, columns);
     let goal = leads(&pins.south, &other, &first, columns);
     if is_solid(&cut, &goal, columns) {
-        return None;
+        return Plan {
+            norths,
+            moves: None,
+            souths,
+        };
     }
-    let norths = gather_side(&pins.north, &spans.columns.one, &first, &other, columns);
-    let souths = gather_side(&pins.south, &spans.columns.two, &other, &first, columns);
     let moves = find_moves(&goal, cut, first, columns);
-    Some(Plan {
+    Plan {
         norths,
-        moves,
+        moves: Some(moves),
         souths,
-    })
+    }
 }

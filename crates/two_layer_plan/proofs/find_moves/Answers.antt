@@ -1,7 +1,7 @@
 -- One more move is the definition's.
 use Rattle.std.proofs.Common.{arith, rules, ◌≤◌, ◌<◌, ap, length, length-set, refl, length-append}
 use Rattle.terms.specs.Limits.{byte_values}
-use Rattle.two_layer_cuts.specs.Rows.{item}
+use Rattle.two_layer_cuts.specs.Rows.{operations_in, item}
 use Rattle.two_layer_plan.proofs.Moving.{moving_none, moving_full, moving_done, moving_more, next_le, near_more}
 use Rattle.two_layer_plan.proofs.find_moves.Goals as goal
 
@@ -27,11 +27,11 @@ loop-preserved c =
     next_le _ (item c.args.goal.now) (item l.cut) (item l.at) l.left _ _ l.invariant.inside new in
     let small : c.from-x.result < byte_values = search rules in
     record {
-      many = rw c.push.ensures.items (omega (arith, length-append l.made.items));
+      many = rw c.push.ensures (omega (arith, length-append (operations_in l.made)));
       room = simp length-set l.invariant.room;
       inside = omega (arith, l.invariant.near c.from-x.result);
       near = near_more _ l.at _ _ l.invariant.room small inside l.invariant.near;
-      moving = λ goal' st r a. rw c.push.ensures.items (moving_more _ goal' st l.made.items l.cut l.at l.left
+      moving = λ goal' st r a. rw c.push.ensures (moving_more _ goal' st (operations_in l.made) l.cut l.at l.left
           (l.invariant.moving goal' st r a) c.args.goal.now r l.invariant.inside _ _ new (omega arith) c.requires.0 l.invariant.room _ _
           c.from-x.ensures small c.from-left.ensures
           _ c.cut_after-cut.ensures _ refl refl c.min.ensures c.max.ensures);

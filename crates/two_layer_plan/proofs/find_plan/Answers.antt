@@ -11,8 +11,14 @@ returns-then-is_solid c =
     let south = c.args.pins.now.south in
     let fs = c.firsts-first.ensures in
     let os = c.firsts-other.ensures in
-    rw (← c.column_count-columns.ensures) (sym (solid_same (entry north) (entry south) _ _ _ (c.leads-cut.ensures (entry south) fs os)
-    (c.leads-goal.ensures (entry north) os fs)) ∙ sym c.is_solid.ensures ∙ c.if-is_solid.true)
+    let start = c.leads-cut.ensures (entry south) fs os in
+    let end = c.leads-goal.ensures (entry north) os fs in
+    let (few, ns, ss) = rw (← c.column_count-columns.ensures) at c.requires in
+    rw (← c.column_count-columns.ensures) (record {
+      norths = c.gather_side-norths.ensures (entry south) ns fs os;
+      souths = c.gather_side-souths.ensures (entry north) ss os fs;
+      moves = sym (solid_same (entry north) (entry south) _ _ _ start end) ∙ sym c.is_solid.ensures ∙ c.if-is_solid.true;
+    })
 
 pub find_moves-moves-requires : goal.find_moves-moves-requires
 find_moves-moves-requires c =
@@ -35,8 +41,10 @@ returns c =
     let end = c.leads-goal.ensures (entry north) os fs in
     let (few, ns, ss) = rw (← c.column_count-columns.ensures) at c.requires in
     rw (← c.column_count-columns.ensures) (record {
-      wirable = sym (solid_same (entry north) (entry south) _ _ _ start end) ∙ sym c.is_solid.ensures ∙ c.if-is_solid.false;
       norths = c.gather_side-norths.ensures (entry south) ns fs os;
       souths = c.gather_side-souths.ensures (entry north) ss os fs;
-      moves = c.find_moves-moves.ensures _ _ end (start_agrees north _ _ fs south _ start);
+      moves = (
+        sym (solid_same (entry north) (entry south) _ _ _ start end) ∙ sym c.is_solid.ensures ∙ c.if-is_solid.false,
+        c.find_moves-moves.ensures _ _ end (start_agrees north _ _ fs south _ start),
+      );
     })
