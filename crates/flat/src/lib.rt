@@ -2,7 +2,6 @@
 #![tactic(auto)]
 
 ghost use Rattle.std.specs.Prelude.{◌≡◌, ◌+◌, ◌≤◌};
-ghost use Rattle.arrayvec.specs.ArrayVec.{array_vec_len};
 ghost use Rattle.terms.specs.Limits.{longest_side};
 ghost use Rattle.grid.specs.Legal.{entry};
 ghost use Rattle.problem.specs.Problem.{Good};
@@ -21,11 +20,11 @@ use ticket_writer::write_ticket;
 // The places of a side, empty ones too.
 #[tactic(auto, using(crate::proofs::Laws::places_listed))]
 fn with_places(out: &mut Output, nets: &[u8; LONGEST_SIDE], places: usize)
-    requires { (places ≤ longest_side) × (array_vec_len out.old + places ≤ most_output) }
+    requires { (places ≤ longest_side) × (out.old.used + places ≤ most_output) }
     ensures adds { Adds out.old (values_from (entry nets.now) 1 places) out.new }
-    ensures size { array_vec_len out.new ≡ array_vec_len out.old + places }
+    ensures size { out.new.used ≡ out.old.used + places }
 {
-    out.try_extend_from_slice(&nets[..places]).unwrap();
+    out.append(&nets[..places]);
 }
 
 // The whole flat ticket: bytes 0 to 2, and then all sides.

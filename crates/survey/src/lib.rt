@@ -5,7 +5,6 @@ ghost use Rattle.std.specs.Prelude.{◌≡◌, ◌+◌, ◌≤◌, ◌++◌, len
 ghost use Rattle.survey.specs.Survey.{answered, refused, survey_of};
 ghost use Rattle.survey.specs.Line.{decimal, counted, box_line, trunk_line, two_layer_line, refused_line, line_for, longest_line};
 ghost use Rattle.survey.specs.Line.{Lined};
-ghost use Rattle.arrayvec.specs.ArrayVec.{array_vec_len};
 ghost use Rattle.output.specs.Building.{Says, Adds};
 
 use figures::Figures;
@@ -88,9 +87,9 @@ pub const LONGEST_LINE: usize = 224;
 
 // The digits before the last, and then the last.
 fn number(line: &mut Output, x: usize)
-    requires { array_vec_len line.old + length (decimal x) ≤ longest_line }
+    requires { line.old.used + length (decimal x) ≤ longest_line }
     ensures adds { Adds line.old (decimal x) line.new }
-    ensures size { array_vec_len line.new ≡ array_vec_len line.old + length (decimal x) }
+    ensures size { line.new.used ≡ line.old.used + length (decimal x) }
 {
     if 10 <= x {
         number(line, x / 10);
@@ -101,19 +100,19 @@ fn number(line: &mut Output, x: usize)
 // Words and then a number, which has 20 digits at most.
 #[tactic(auto, using(crate::proofs::Lines::decimal_short))]
 fn field(line: &mut Output, words: &[u8], x: usize)
-    requires { array_vec_len line.old + length words.now + 20 ≤ longest_line }
+    requires { line.old.used + length words.now + 20 ≤ longest_line }
     ensures adds { Adds line.old (words.now ++ decimal x) line.new }
-    ensures used_bound { array_vec_len line.new ≤ array_vec_len line.old + length words.now + 20 }
+    ensures used_bound { line.new.used ≤ line.old.used + length words.now + 20 }
 {
-    line.try_extend_from_slice(words).unwrap();
+    line.append(words);
     number(line, x);
 }
 
 // What every line has: nets, pins and across.
 fn counts(line: &mut Output, a: &SurveyAnswer)
-    requires { array_vec_len line.old + 80 ≤ longest_line }
+    requires { line.old.used + 80 ≤ longest_line }
     ensures adds { Adds line.old (counted a.now) line.new }
-    ensures used_bound { array_vec_len line.new ≤ array_vec_len line.old + 80 }
+    ensures used_bound { line.new.used ≤ line.old.used + 80 }
 {
     field(line, b" nets ", usize::from(a.nets));
     field(line, b" pins ", a.pins);
@@ -122,7 +121,7 @@ fn counts(line: &mut Output, a: &SurveyAnswer)
 
 fn box_line(a: &SurveyAnswer) -> Output
     ensures says { Says result (box_line a.now) }
-    ensures used_le_longest_line { array_vec_len result ≤ longest_line }
+    ensures used_le_longest_line { result.used ≤ longest_line }
 {
     let mut line = Output::new();
     field(&mut line, b"box length ", a.n.0);
@@ -139,7 +138,7 @@ fn box_line(a: &SurveyAnswer) -> Output
 fn trunk_line(a: &SurveyAnswer, words: &[u8]) -> Output
     requires { length words.now ≤ 15 }
     ensures says { Says result (trunk_line words.now a.now) }
-    ensures used_le_longest_line { array_vec_len result ≤ longest_line }
+    ensures used_le_longest_line { result.used ≤ longest_line }
 {
     let mut line = Output::new();
     field(&mut line, words, a.n.0);
@@ -153,7 +152,7 @@ fn trunk_line(a: &SurveyAnswer, words: &[u8]) -> Output
 // A two-layer channel, whose tracks only its wiring tells.
 fn two_layer_line(a: &SurveyAnswer) -> Output
     ensures says { Says result (two_layer_line a.now) }
-    ensures used_le_longest_line { array_vec_len result ≤ longest_line }
+    ensures used_le_longest_line { result.used ≤ longest_line }
 {
     let mut line = Output::new();
     field(&mut line, b"two-layer length ", a.n.0);
@@ -165,7 +164,7 @@ fn two_layer_line(a: &SurveyAnswer) -> Output
 
 fn refused_line(a: &SurveyAnswer) -> Output
     ensures says { Says result (refused_line a.now) }
-    ensures used_le_longest_line { array_vec_len result ≤ longest_line }
+    ensures used_le_longest_line { result.used ≤ longest_line }
 {
     let mut line = Output::new();
     field(&mut line, b"refused ", usize::from(a.refusal.number));
@@ -177,7 +176,7 @@ fn refused_line(a: &SurveyAnswer) -> Output
 #[tactic(auto, unfolding(crate::specs::Line::line_for))]
 fn line_for(a: &SurveyAnswer) -> Output
     ensures says { Says result (line_for a.now) }
-    ensures used_le_longest_line { array_vec_len result ≤ longest_line }
+    ensures used_le_longest_line { result.used ≤ longest_line }
 {
     if a.refusal.number != 0 {
         return refused_line(a);

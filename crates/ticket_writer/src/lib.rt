@@ -2,7 +2,6 @@
 #![tactic(auto)]
 
 ghost use Rattle.std.specs.Prelude.{◌≡◌, [], ◌∷◌, ◌++◌, ◌+◌, ◌*◌, ◌≤◌, ◌<◌};
-ghost use Rattle.arrayvec.specs.ArrayVec.{array_vec_len};
 ghost use Rattle.counting.specs.Counting.{bit};
 ghost use Rattle.terms.specs.Limits.{longest_side};
 ghost use Rattle.grid.specs.Legal.{entry};
@@ -37,39 +36,44 @@ fn has_pins(nets: &[u8; LONGEST_SIDE], places: usize) -> bool
     requires { places ≤ longest_side }
     ensures { result ≡ has_pins (entry nets.now) places }
 {
-    nets[..places].iter().any(|net| *net != 0)
+    let mut found = false;
+    for pin in &nets[..places] {
+        found |= *pin != 0;
+    }
+    found
 }
 
-#[tactic(auto, using(crate::proofs::Laws::values_start, crate::proofs::Laws::values_step))]
 fn with_map(out: &mut Output, nets: &[u8; LONGEST_SIDE], places: usize)
-    requires { (places ≤ longest_side) × (array_vec_len out.old + map_bytes places ≤ most_output) }
+    requires { (places ≤ longest_side) × (out.old.used + map_bytes places ≤ most_output) }
     ensures adds { Adds out.old (values_from (map_byte (entry nets.now) places) 0 (map_bytes places)) out.new }
-    ensures size { array_vec_len out.new ≡ array_vec_len out.old + map_bytes places }
+    ensures size { out.new.used ≡ out.old.used + map_bytes places }
 {
     for j in 0..places.div_ceil(8) {
         out.push(map_byte(nets, j, places));
     }
 }
 
-#[tactic(auto, using(crate::proofs::Laws::nets_start, crate::proofs::Laws::nets_more, crate::proofs::Laws::nets_same))]
+// The count stands in a variable of its own, since a store into the list may be one into the list's count, for all that the compiler knows.
 fn with_nets(out: &mut Output, nets: &[u8; LONGEST_SIDE], places: usize)
-    requires { (places ≤ longest_side) × (array_vec_len out.old + places ≤ most_output) }
+    requires { (places ≤ longest_side) × (out.old.used + places ≤ most_output) }
     ensures adds { Adds out.old (nets_to (entry nets.now) places) out.new }
-    ensures most { array_vec_len out.new ≤ array_vec_len out.old + places }
+    ensures most { out.new.used ≤ out.old.used + places }
 {
+    let mut used = out.used;
     for net in &nets[..places] {
         if *net != 0 {
-            out.push(*net);
+            out.bytes[used] = *net;
+            used += 1;
         }
     }
+    out.used = used;
 }
 
 // A side: nothing where it has no pin.
-#[tactic(auto, using(crate::proofs::Laws::side_standing, crate::proofs::Laws::side_missing))]
 fn with_side(out: &mut Output, nets: &[u8; LONGEST_SIDE], places: usize)
-    requires { (places ≤ longest_side) × (array_vec_len out.old + map_bytes places + places ≤ most_output) }
+    requires { (places ≤ longest_side) × (out.old.used + map_bytes places + places ≤ most_output) }
     ensures adds { Adds out.old (side_bytes (entry nets.now) places) out.new }
-    ensures most { array_vec_len out.new ≤ array_vec_len out.old + map_bytes places + places }
+    ensures most { out.new.used ≤ out.old.used + map_bytes places + places }
 {
     if has_pins(nets, places) {
         with_map(out, nets, places);
@@ -90,7 +94,7 @@ fn side_map(pins: &Pins, n: usize, w: usize) -> u8
 
 // All sides.
 fn with_sides(out: &mut Output, pins: &Pins, n: usize, w: usize)
-    requires { (n ≤ longest_side) × (w ≤ longest_side) × (array_vec_len out.old ≡ 4) }
+    requires { (n ≤ longest_side) × (w ≤ longest_side) × (out.old.used ≡ 4) }
     ensures { Adds out.old (side_bytes (entry pins.now.north) n ++ side_bytes (entry pins.now.south) n
         ++ side_bytes (entry pins.now.west) w ++ side_bytes (entry pins.now.east) w) out.new }
 {

@@ -13,4 +13,4 @@ returns c =
     let a = c.args in
     let known : Bytes a.ticket.now = record { small = λ i. (c.type_inv.ticket i).fits } in
     convert_written a.ticket.now a.flat.now c.parse-whole.ensures ticket_faithful flat_faithful known c.if-whole-ne0.false
-    (wrote_as (c.as_slice.ensures.value ∙ c.flat_of.ensures) c.deliver.ensures)
+    (wrote_as (c.as_slice.ensures ∙ c.flat_of.ensures.bytes) c.deliver.ensures)
