@@ -10,7 +10,7 @@ ghost use Rattle.board_law.specs.Counts.{count_entries};
 ghost use Rattle.board_law.specs.Runs.{low_along, high_along, in_run, shifted, box_width, Recounted};
 ghost use Rattle.board_sides.specs.Places.{first_in, last_in};
 
-use board_sides::EndPlaces;
+use board_sides::{EndPlaces, NO_PLACE};
 use problem::Problem;
 use terms::{BOX, is_within};
 
@@ -36,7 +36,8 @@ fn shift(list: &mut [u8; COUNT_ENTRIES], from: u8, size: u8, step: u8)
     }
 }
 
-// The least place along the grid at which a net stands: `near` says whether it has pins before the first place.
+// The least place along the grid at which a net stands: `near` says whether it has pins before the first place. Where a span begins past
+// every place the sides along the grid have none.
 fn low_along(along: EndPlaces, near: bool, past: u8) -> u8
     ensures { result ≡ low_along (first_in along.span) near past }
 {
@@ -44,8 +45,8 @@ fn low_along(along: EndPlaces, near: bool, past: u8) -> u8
         return 0;
     }
     match along.span {
-        Some(span) => span.first,
-        None => past,
+        Some(span) if span.first < NO_PLACE => span.first,
+        _ => past,
     }
 }
 

@@ -1,12 +1,12 @@
 // One side of a board, or two across from each other: where a net has pins, and the side without the nets of a list. (For our own crates.)
 #![tactic(auto)]
 
-ghost use Rattle.std.specs.Prelude.{◌≡◌, cond, ℕ, ◌≤◌, ◌<◌, eqb, get_or, take};
+ghost use Rattle.std.specs.Prelude.{◌≡◌, cond, ℕ, ◌≤◌, ◌<◌, eqb, get_or, take, IfSome};
 ghost use Rattle.counting.specs.Counting.{In, some};
 ghost use Rattle.terms.specs.Limits.{longest_side};
 ghost use Rattle.grid.specs.Legal.{entry};
 ghost use Rattle.board_law.specs.Places.{listed};
-ghost use Rattle.board_law.specs.Runs.{Ends, NetNumbers};
+ghost use Rattle.board_law.specs.Runs.{no_place, Ends, NetNumbers};
 ghost use Rattle.board_sides.specs.Places.{first_in, last_in};
 
 use terms::LONGEST_SIDE;
@@ -22,7 +22,7 @@ const PADDED_SIDE: usize = 96;
 // Past every place.
 // Kept: measured (docs/DECISIONS.md, 77). The loop of `end_places` treats sixteen places at once: it takes the least of bytes, and an
 // Option there is a branch. What it hands out is an Option.
-const NO_PLACE: u8 = 255;
+pub const NO_PLACE: u8 = 255;
 
 fn padded(side: &[u8; LONGEST_SIDE]) -> [u8; PADDED_SIDE]
     ensures places { (i : ℕ) → i < longest_side → get_or result i 0 ≡ get_or side.now i 0 }
@@ -79,7 +79,8 @@ pub fn side_without(side: &[u8; LONGEST_SIDE], nets: &[usize]) -> [u8; LONGEST_S
 // Where the net stands on two sides across from each other.
 pub fn end_places(a: &[u8; LONGEST_SIDE], b: &[u8; LONGEST_SIDE], net: u8) -> EndPlaces
     requires { 1 ≤ net }
-    ensures { Ends (entry a.now) (entry b.now) net (first_in result.span) (last_in result.span) result.one result.two }
+    ensures ends { Ends (entry a.now) (entry b.now) net (first_in result.span) (last_in result.span) result.one result.two }
+    ensures a_place { IfSome result.span (λ s. s.first < no_place) }
 {
     let here = padded(a);
     let there = padded(b);

@@ -1,14 +1,10 @@
 // Where a net stands on two sides across from each other.
 
-ghost use Rattle.std.specs.Prelude.{◌<◌};
-ghost use Rattle.board_law.specs.Runs.{no_place};
-
 // The first and the last place at which a net stands on one of two sides.
 #[derive(Clone, Copy)]
 pub struct Span {
     pub first: u8,
     pub last: u8,
-    ghost a_place: { first < no_place },
 }
 
 // Where two sides across from each other have a net: whether the one has it and whether the other has, and from where to where they do.

@@ -29,8 +29,8 @@ returns-then-not-has_place-clause-absent c =
     let q = c.args.q.now in
     let nets = c.args.nets.now in
     let m = get_or nets l.i 0 in
-    let found = on_a_side q.pins m c.end_places-along.result c.end_places-ends.result c.end_places-along.ensures c.end_places-ends.ensures
-    c.has_place.ensures in
+    let found = on_a_side q.pins m c.end_places-along.result c.end_places-ends.result c.end_places-along.ensures.ends
+    c.end_places-ends.ensures.ends c.has_place.ensures in
     let away = ap (λ (t : Bool). within m largest_net && t) (sym found ∙ c.if-not-has_place.true) ∙ and-false (within m largest_net) in
     let h = c.loop-i-test.true in
     (absent_at (is_there (pins_in q.pins)) nets l.i h l.invariant.counting away, h)
@@ -43,12 +43,12 @@ loop-i-preserved c =
     let m = get_or nets l.i 0 in
     let along = c.end_places-along.result in
     let ends = c.end_places-ends.result in
-    let here = sym (on_a_side q.pins m along ends c.end_places-along.ensures c.end_places-ends.ensures c.has_place.ensures)
+    let here = sym (on_a_side q.pins m along ends c.end_places-along.ensures.ends c.end_places-ends.ensures.ends c.has_place.ensures)
     ∙ c.if-not-has_place.false in
     let inside = sym c.is_within.ensures ∙ c.if-not-is_within.false in
     let counts : Recounts q m 255 along ends l.columns l.tracks c.recount.new.list c.recount-in-loop-i.new.list = record {
-      along = c.end_places-along.ensures;
-      ends = c.end_places-ends.ensures;
+      along = c.end_places-along.ensures.ends;
+      ends = c.end_places-ends.ensures.ends;
       on_columns = recounted_along _ q.n.0 255 along ends _ _ c.column_count-n.ensures c.recount.ensures.recounted;
       on_tracks = recounted_along _ (box_width q) 255 ends along _ _ c.box_width-w.ensures.0 c.recount-in-loop-i.ensures.recounted;
     } in

@@ -30,19 +30,8 @@ loop-i-preserved c =
     seen_more (entry here) (entry there) net l.i _ _ (omega arith) (sym (entry_next here l.i)) (sym (entry_next there l.i)) least greatest
     c.min-first.ensures c.max-last.ensures l.invariant
 
-pub invariant_of-span : goal.invariant_of-span
-invariant_of-span c =
-    let l = c.loop-i in
-    let q = c.padded-there in
-    let p = c.padded-here in
-    let end : l.i ≡ padded_side = omega arith in
-    let ends = seen_all _ _ _ _ c.args.net l.first l.last l.one l.two c.requires
-    (padded_is c.args.a.now p.result p.ensures.places p.ensures.past)
-    (padded_is c.args.b.now q.result q.ensures.places q.ensures.past) (rw (← end) l.invariant) in
-    record { a_place = a_place ends c.if-first.false }
-
-pub returns-then-first : goal.returns-then-first
-returns-then-first c =
+pub returns-then-first-clause-ends : goal.returns-then-first-clause-ends
+returns-then-first-clause-ends c =
     let l = c.loop-i in
     let q = c.padded-there in
     let p = c.padded-here in
@@ -52,8 +41,8 @@ returns-then-first c =
     (padded_is c.args.b.now q.result q.ensures.places q.ensures.past) (rw (← end) l.invariant) in
     without_place ends c.if-first.true
 
-pub returns-else-first : goal.returns-else-first
-returns-else-first c =
+pub returns-else-first-clause-ends : goal.returns-else-first-clause-ends
+returns-else-first-clause-ends c =
     let l = c.loop-i in
     let q = c.padded-there in
     let p = c.padded-here in
@@ -61,3 +50,6 @@ returns-else-first c =
     seen_all _ _ _ _ c.args.net l.first l.last l.one l.two c.requires
     (padded_is c.args.a.now p.result p.ensures.places p.ensures.past)
     (padded_is c.args.b.now q.result q.ensures.places q.ensures.past) (rw (← end) l.invariant)
+
+pub returns-else-first-clause-a_place : goal.returns-else-first-clause-a_place
+returns-else-first-clause-a_place c = a_place (returns-else-first-clause-ends c) c.if-first.false

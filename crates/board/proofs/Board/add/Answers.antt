@@ -61,8 +61,8 @@ returns-clause-counted c = λ sound.
     (sym c.holds_net-there.ensures ∙ c.if-there.false) c.if-size-lt2.false c.in_default.ensures.right in
     let counts : Recounts (with_pins q (q.nets + 1) c.place_net.new.pins) a.net 1 along ends a.self.columns a.self.tracks
     c.recount.new.list c.recount-2.new.list = record {
-      along = c.end_places-along.ensures;
-      ends = c.end_places-ends.ensures;
+      along = c.end_places-along.ensures.ends;
+      ends = c.end_places-ends.ensures.ends;
       on_columns = recounted_along _ q.n.0 1 along ends _ _ c.column_count-n.ensures c.recount.ensures.recounted;
       on_tracks = recounted_along _ (box_width q) 1 ends along _ _ c.box_width-w.ensures.0 c.recount-2.ensures.recounted;
     } in
