@@ -225,7 +225,8 @@ impl Board {
         if let Err(absent) = counts_without(&q, &mut columns, &mut tracks, nets) {
             return refused(self, 22, nets[absent]);
         }
-        if let Some(repeat) = first_repeat(nets) {
+        let repeat = first_repeat(nets);
+        if let Some(repeat) = repeat {
             return refused(self, 23, repeat);
         }
         let pins = without_nets(&q.pins, nets);
