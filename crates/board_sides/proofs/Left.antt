@@ -18,7 +18,7 @@ use Rattle.board_law.proofs.Places.{listed_none}
 use Rattle.board_law.proofs.Without.{leaves, left_next}
 
 -- what stands at a place that holds x once a net is taken away
-abbrev cleared : ℕ → ℕ → ℕ
+abbrev pub cleared : ℕ → ℕ → ℕ
 cleared net x = cond (eqb x net) 0 x
 
 pub record Left (l side long : List ℕ) : Type 0 where
