@@ -31,7 +31,8 @@ pub fn fill_by<F: Fn(usize) -> u8>(part: &mut [u8], value: F)
     }
 }
 
-// Of w rows each is a copy of row.
+// Of w rows each is a copy of row. Kept beside `repeat_narrow`: here a row has any length, there it is one store of sixteen bytes, from an
+// array that the compiler keeps in a register.
 fn rows(part: &mut [u8], row: &[u8], w: usize)
     requires { length part.old ≡ length row.now * w }
     ensures { Striped part.old part.new (length row.now) w (λ i j. get_or row.now i 0) }
