@@ -135,7 +135,7 @@ module _ {A : Type 0} {v : A → ℕ} where
   pub only_second : {σ σ' : State A} (a b : A) → v a ≡ v b → σ.mark a ≡ 1 → Marked σ σ' b → Swept v σ σ' (Only a b) 1
   only_second a b q h m = only_marked a b b a m h (sym q) (inr (refl, refl))
 
-marked_one : (m : List ℕ) (i : ℕ) → i < length m → at m i ≡ 0 → Marked (one m) (one (set m i 2)) i
+pub marked_one : (m : List ℕ) (i : ℕ) → i < length m → at m i ≡ 0 → Marked (one m) (one (set m i 2)) i
 marked_one m i h z = record { was = z; is = get_or-set_same m i 2 0 h; rest = elsewhere m i 2; fewer = zeros_set m i 1 h z }
 
 -- one edge between points, of which the other end was reached before

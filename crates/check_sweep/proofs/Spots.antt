@@ -13,14 +13,14 @@ use Rattle.check_link.specs.Edges.{Only}
 use Rattle.check_sweep.specs.Reached.{Spot, a_pin, a_point, val, two}
 use Rattle.check_sweep.specs.Pins.{Inner}
 
-marked_pin : (s m : List ℕ) (i : ℕ) → i < length s → at s i ≡ 0 → Marked (two s m) (two (set s i 2) m) (a_pin i)
+pub marked_pin : (s m : List ℕ) (i : ℕ) → i < length s → at s i ≡ 0 → Marked (two s m) (two (set s i 2) m) (a_pin i)
 marked_pin s m i h z = record { was = z; is = get_or-set_same s i 2 0 h; rest = rest; fewer = omega (arith, zeros_set s i 1 h z) }
   where
     rest : (c : Spot) → (c ≡ a_pin i) ⊎ (val (set s i 2) m c ≡ val s m c)
     rest (a_pin c) = ⊎_elim (λ e. inl (ap a_pin e)) inr (elsewhere s i 2 c)
     rest (a_point c) = inr refl
 
-marked_point : (s m : List ℕ) (i : ℕ) → i < length m → at m i ≡ 0 → Marked (two s m) (two s (set m i 2)) (a_point i)
+pub marked_point : (s m : List ℕ) (i : ℕ) → i < length m → at m i ≡ 0 → Marked (two s m) (two s (set m i 2)) (a_point i)
 marked_point s m i h z = record { was = z; is = get_or-set_same m i 2 0 h; rest = rest; fewer = omega (arith, zeros_set m i 1 h z) }
   where
     rest : (c : Spot) → (c ≡ a_point i) ⊎ (val s (set m i 2) c ≡ val s m c)

@@ -45,7 +45,7 @@ pub one_most : (b : Bool) {x : ℕ} → x ≡ bool_byte b → x ≤ 1
 one_most true e = omega (arith, e)
 one_most false e = omega (arith, e)
 
-counted_more : (t : ℕ → Bool) {m total x : ℕ} → 1 ≤ m → total ≡ count t (m - 1) → x ≡ bit (t m) → total + x ≡ count t (m + 1 - 1)
+pub counted_more : (t : ℕ → Bool) {m total x : ℕ} → 1 ≤ m → total ≡ count t (m - 1) → x ≡ bit (t m) → total + x ≡ count t (m + 1 - 1)
 counted_more t {m} one e h =
     let here : m - 1 + 1 ≡ m = omega arith in
     let same : m + 1 - 1 ≡ m = omega arith in

@@ -57,10 +57,10 @@ module _ {o : Orientation} {a b' c d : List ℕ} {n w : ℕ} {tracks : List ℕ}
     abbrev lane : List ℕ
     lane = mid_of (t * w) (t * w + w - t * w) tracks
 
-    round_fits : from + n * w + n * w ≤ length now
+    pub round_fits : from + n * w + n * w ≤ length now
     round_fits = omega (arith, two_more (n * w) q t more, fit.room, drawn_as_long r.layers)
 
-    lane_fits : start + w ≤ length tracks
+    pub lane_fits : start + w ≤ length tracks
     lane_fits = omega (arith, fit.lanes, mul-le-mul_right w more, suc-mul t w)
 
     lane_long : length lane ≡ w
@@ -100,7 +100,7 @@ module _ {o : Orientation} {a b' c d : List ℕ} {n w : ℕ} {tracks : List ℕ}
           (side_lines (eqb ((t + q) % 2) 0) is) one)
           (λ i j hi hj. ap (λ (z : Side). p z (suc i)) is ∙ comb_is i j hi hj)
 
-      row_fits : to ≤ length mid
+      pub row_fits : to ≤ length mid
       row_fits = omega (arith, round_fits, drawn_as_long comb_drawn, drawn_as_long r.layers)
 
       pub next_round : {rows : List ℕ} → StripedAs (not turned) (mid_of middle (to - middle) mid) rows (length lane) n (λ i j. get_or lane i 0)
