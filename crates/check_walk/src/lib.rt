@@ -3,7 +3,7 @@
 // Of a walk only this is promised: what it marks is reached. The sweeps that follow find whatever it should miss.
 #![tactic(auto)]
 
-ghost use Rattle.std.specs.Prelude.{◌≡◌, ◌≢◌, ◌<◌, length};
+ghost use Rattle.std.specs.Prelude.{◌≡◌, ◌≢◌, ◌<◌, true, length};
 ghost use Rattle.grid.specs.Grid.{grid_of};
 ghost use Rattle.check_link.specs.Marks.{at};
 ghost use Rattle.check_sweep.specs.Reached.{val, two, Grown};
@@ -133,8 +133,9 @@ fn walk_from(
 // Where pin a waits: walks from its points. Whether it waited.
 fn take_up(x: Wired, s: &mut [u8; PIN_PLACES], m: &mut [u8], a: usize) -> bool
     requires { (length m.old ≡ length x.points.now) × (a < pin_places) }
-    ensures { Grown (val x.entry.pins.now x.entry.points.now) (two s.old m.old)
+    ensures grown { Grown (val x.entry.pins.now x.entry.points.now) (two s.old m.old)
         (two s.new m.new) (Edges (grid_of x.entry.frame)) }
+    ensures waited { result ≡ true → at s.old a ≡ 1 }
 {
     if s[a] != 1 {
         return false;
@@ -156,7 +157,10 @@ fn take_up_all(x: Wired, s: &mut [u8; PIN_PLACES], m: &mut [u8]) -> bool
 {
     let mut waited = false;
     for a in 0..PIN_PLACES {
-        waited |= take_up(x, s, m, a);
+        // no `|=`: most pins wait no more, and the loop over these then has nothing to do for each
+        if take_up(x, s, m, a) {
+            waited = true;
+        }
     }
     waited
 }

@@ -6,4 +6,4 @@ pub loop-a-init : goal.loop-a-init
 loop-a-init c = grown_none
 
 pub loop-a-preserved : goal.loop-a-preserved
-loop-a-preserved c = grown_then c.loop-a.invariant c.take_up-waited.ensures
+loop-a-preserved c = grown_then c.loop-a.invariant c.take_up.ensures.grown
