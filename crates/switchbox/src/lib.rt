@@ -93,7 +93,9 @@ fn best_orientation(counts: Counts, turned: bool) -> Orientation
 }
 
 // A layer, whose bytes the part is, with each line one value: as many lines as there are values, k points long. Lines are the buffer's
-// tracks where `by_track`, else its columns.
+// tracks where `by_track`, else its columns. Inlined, like `paint_comb`: a box of one track or one column has 184 layers of one line or of
+// single bytes, and two calls for each pair of them took as long as the layers.
+#[inline]
 fn paint_lines(part: &mut [u8], values: &[u8], k: usize, by_track: bool)
     requires { length part.old ≡ length values.now * k }
     ensures { StripedAs by_track part.old part.new (length values.now) k
@@ -107,6 +109,7 @@ fn paint_lines(part: &mut [u8], values: &[u8], k: usize, by_track: bool)
 }
 
 // The comb of a side of the moved box: each line, k points long, holds the pin at its end.
+#[inline]
 fn paint_comb(part: &mut [u8], moved: Moved, side: Side, k: usize, by_track: bool)
     requires { Combed (own_list (orientation_of moved.orientation) moved.pins.north.now moved.pins.south.now moved.pins.west.now
         moved.pins.east.now (side_named side)) k part.old }
