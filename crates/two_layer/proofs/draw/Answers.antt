@@ -10,7 +10,7 @@ returns c =
     let e = c.track_count-top.ensures in
     let first = rw (e, c.as_slice-norths.ensures) at c.draw_list-gathered.ensures.drawn in
     let led = rw c.as_slice-norths.ensures at c.draw_list-gathered.ensures.led in
-    let second = rw (e, c.as_slice-norths.ensures, c.moves_in-moves.ensures) at c.draw_list.ensures.drawn in
+    let second = simp (e, c.as_slice-norths.ensures, c.moves_in-moves.ensures) at c.draw_list.ensures.drawn in
     let third = rw c.as_slice.ensures at c.draw_list-2.ensures.drawn in
     all_drawn _ _ (ops_of (operations_in p.norths)) (ops_of (moves_in p.moves)) (ops_of (operations_in p.souths)) c.requires.w_value
     c.requires.fact.0.1 c.cut_of-start.ensures c.cut_of-end.ensures c.draw_track.ensures first led second third
