@@ -10,10 +10,14 @@
 --   HoldsWhatWasRead old new bytes
 --                           of an input, the bytes that were to come, `old`, are now `new`, as far as they are known; those between stand
 --                           at the start of bytes, however many they are
-use Rattle.std.specs.Prelude.{ℕ, zero, suc, ◌+◌, ◌*◌, ◌≤◌, max, cond, List, ◌≡◌, leb, ◌<◌, length, get_or, take, drop, slice_range}
+--   refusal_told r          the refusal that the outcome of a call tells; 0 and 0 where it is not refused
+use Rattle.std.specs.Prelude.{Result, Ok, Err, ℕ, zero, suc, ◌+◌, ◌*◌, ◌≤◌, max, cond, List, ◌≡◌, leb, ◌<◌, length, get_or, take, drop}
+use Rattle.std.specs.Prelude.{slice_range}
 use Rattle.std.specs.Io.KnownBytes.{Consumes}
 use Rattle.std.specs.declared.option.Option.{Option}
 use Rattle.terms.specs.Limits.{byte_values}
+use Rattle.terms.specs.Refusals.{refusal}
+use Rattle.terms.specs.declared.Refusal.{Refusal}
 use Rattle.records.specs.declared.Record.{Record}
 
 abbrev pub number_at : List ℕ → ℕ → ℕ → ℕ
@@ -44,3 +48,7 @@ pub record Asked (s : List ℕ) (more : ℕ) (r : Record) (ticket fields rest : 
 
 abbrev pub HoldsWhatWasRead : Option (List ℕ) → Option (List ℕ) → List ℕ → Type 0
 HoldsWhatWasRead old new bytes = (n : ℕ) × (n ≤ length bytes) × Consumes old new (take n bytes)
+
+abbrev pub refusal_told : Result ℕ Refusal → Refusal
+refusal_told (Ok length) = refusal 0 0
+refusal_told (Err r) = r

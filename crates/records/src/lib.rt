@@ -7,11 +7,11 @@ ghost use Rattle.std.specs.Io.{ReadsAtMost};
 ghost use Rattle.std.specs.Iterator.{at_most};
 ghost use Rattle.std.specs.Io.KnownBytes.{Consumes, IsAtEnd};
 ghost use Rattle.terms.specs.Limits.{byte_values};
-ghost use Rattle.records.specs.Records.{number_at, record_at, Cut, Asked, HoldsWhatWasRead};
+ghost use Rattle.records.specs.Records.{number_at, record_at, Cut, Asked, HoldsWhatWasRead, refusal_told};
 
 use std::io;
 use std::io::Read;
-use terms::Refusal;
+use terms::{Refusal, refuse};
 
 // The most bytes of input that a program reads, where it says no other number.
 pub const MOST_INPUT: usize = 65536;
@@ -156,18 +156,19 @@ pub fn refusal_fields(rt: &impl Print, r: Refusal) -> io::Result<()> {
     field(rt, r.place)
 }
 
-// The same of a call that may be refused: 0 and 0 where it is not.
-pub fn outcome_fields(rt: &impl Print, r: Result<usize, Refusal>) -> io::Result<()> {
+// The refusal that a call's outcome tells: 0 and 0 where it is not refused.
+pub fn refusal_told(r: Result<usize, Refusal>) -> Refusal
+    ensures { result ≡ refusal_told r }
+{
     match r {
-        Ok(_) => refusal_fields(
-            rt,
-            Refusal {
-                number: 0,
-                place: 0,
-            },
-        ),
-        Err(refusal) => refusal_fields(rt, refusal),
+        Ok(_) => refuse(0, 0),
+        Err(refusal) => refusal,
     }
+}
+
+// The fields of that refusal.
+pub fn outcome_fields(rt: &impl Print, r: Result<usize, Refusal>) -> io::Result<()> {
+    refusal_fields(rt, refusal_told(r))
 }
 
 // What a buffer holds before a call writes it.
