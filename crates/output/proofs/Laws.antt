@@ -1,7 +1,7 @@
--- What is built so far, and then more of it; and what the caller of a call that writes finds: in the buffer where the call was refused, past
--- what was written, and in front.
-use Rattle.std.proofs.Common.{◌≡◌, ℕ, ◌≤◌, Bool, true, false, List, [], ◌++◌, length, take, drop, leb, sym, ◌∙◌, ap, subst, arith, rules, Result, Ok, Err, OnErr}
-use Rattle.std.proofs.Common.{◌∷◌, ◌+◌, ◌<◌, add-one, length-append, append_assoc}
+-- What is built so far, and then more of it; and what the caller of a call that writes finds: in the buffer where the call was refused,
+-- past what was written, and in front.
+use Rattle.std.proofs.Common.{◌≡◌, ℕ, ◌+◌, ◌≤◌, ◌<◌, Bool, true, false, List, [], ◌∷◌, ◌++◌, length, take, drop, leb, sym, ◌∙◌, ap, subst}
+use Rattle.std.proofs.Common.{arith, rules, Result, Ok, Err, OnErr, add-one, length-append, append_assoc}
 use Rattle.std.proofs.Math.ListN.{set}
 use Rattle.std.proofs.lemmas.List.{append-nil}
 use Rattle.std.specs.Prelude.{OnOk}

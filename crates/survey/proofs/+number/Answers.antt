@@ -26,7 +26,8 @@ returns t c =
     let last = λ (o : Output). Adds o ((48 + x % 10) ∷ []) c.push.new.self in
     let adds : Adds c.args.line.now (decimal x) c.push.new.self =
     elim c.if-x-ge10.branch [
-      | then-x-ge10 w ↦ adds_as (sym (decimal_more x w.if-x-ge10.true)) (adds_adds w.number.ensures.adds (subst last w.line-is c.push.ensures))
+      | then-x-ge10 w ↦
+          adds_as (sym (decimal_more x w.if-x-ge10.true)) (adds_adds w.number.ensures.adds (subst last w.line-is c.push.ensures))
       | else-x-ge10 w ↦ adds_as (sym (decimal_last x w.if-x-ge10.false)) (subst last w.line-is c.push.ensures)
     ] in
     record { adds = adds; size = adds.size }
