@@ -1,6 +1,7 @@
 -- The definitions of a ticket's bytes as code passes them, one place or byte more at a time, behind what was built before.
 use Rattle.std.proofs.Common.{◌≡◌, ℕ, zero, suc, ◌+◌, ◌-◌, ◌*◌, ◌^◌, ◌≤◌, ◌<◌, ◌≢◌, ◌⊎◌, inl, inr, min, Bool, true, false, ◌&&◌, ◌||◌}
-use Rattle.std.proofs.Common.{not, eqb, leb, List, [], ◌∷◌, ◌++◌, length, get_or, drop, refl, sym, ap, ◌∙◌, add-one, arith, length-drop, append_assoc}
+use Rattle.std.proofs.Common.{not, eqb, leb, List, [], ◌∷◌, ◌++◌, length, get_or, drop, refl, sym, ap, ◌∙◌, add-one, arith}
+use Rattle.std.proofs.Common.{length-drop, append_assoc}
 use Rattle.std.proofs.lemmas.List.{append-nil, get_or-take, get_or-drop}
 use native.Mathlib.Decide.{dec_le}
 use native.Mathlib.Nat.{pow-suc}

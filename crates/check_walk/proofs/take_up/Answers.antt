@@ -8,7 +8,8 @@ pub returns-then-s-a-ne1-clause-grown : goal.returns-then-s-a-ne1-clause-grown
 returns-then-s-a-ne1-clause-grown c = grown_none
 
 pub returns-then-column_count-i-clause-grown : goal.returns-then-column_count-i-clause-grown
-returns-then-column_count-i-clause-grown c = remarked c.args.x.pins.now c.args.s.now c.args.x.points.now c.args.m.now (omega arith) (λ z. omega arith) (λ z. omega arith)
+returns-then-column_count-i-clause-grown c =
+    remarked c.args.x.pins.now c.args.s.now c.args.x.points.now c.args.m.now (omega arith) (λ z. omega arith) (λ z. omega arith)
 
 pub returns-clause-grown : goal.returns-clause-grown
 returns-clause-grown c =

@@ -7,5 +7,6 @@ pub loop-j-preserved : goal.loop-j-preserved
 loop-j-preserved c =
     let n = length c.args.row.now in
     let copied = c.copy_from_slice.ensures.after in
-    lined_next n c.copy_from_slice.new.self (le_refl n) (omega (arith, row_in n c.args.w c.loop-j.j (omega (arith, c.loop-j-test.true)))) (ap length copied)
+    lined_next n c.copy_from_slice.new.self (le_refl n)
+    (omega (arith, row_in n c.args.w c.loop-j.j (omega (arith, c.loop-j-test.true)))) (ap length copied)
     (λ i h. ap (λ l. get_or l i 0) copied) c.loop-j.invariant
