@@ -23,7 +23,7 @@ ghost use Rattle.std.specs.Prelude.{◌*◌, ◌≤◌, ◌≡◌, length};
 ghost use Rattle.std.specs.Iterator.{at_most};
 
 use board::{Board, Edited};
-use records::{field, outcome_fields, refusal_fields};
+use records::{field, refusal_fields, refusal_told};
 use std::io;
 use terms::{BYTE_VALUES, ROW, Refusal};
 
@@ -191,7 +191,7 @@ fn show_written(rt: &impl Print, board: Board, size: usize, buffer: &mut [u8]) -
     requires { size ≤ length buffer.old }
 {
     let w = write(board, size, buffer);
-    outcome_fields(rt, w)?;
+    refusal_fields(rt, refusal_told(w))?;
     field(rt, w.unwrap_or(0))?;
     records::last_field(rt, records::hash(buffer, 0))
 }

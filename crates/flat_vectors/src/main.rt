@@ -24,7 +24,7 @@ fn show_bytes(rt: &impl Print, buffer: &[u8]) -> io::Result<()> {
 
 // The line of a call.
 fn show(rt: &impl Print, r: Result<usize, Refusal>, buffer: &[u8]) -> io::Result<()> {
-    records::outcome_fields(rt, r)?;
+    records::refusal_fields(rt, records::refusal_told(r))?;
     rt.print(r.unwrap_or(0))?;
     show_bytes(rt, buffer)?;
     println!(rt; "")

@@ -45,7 +45,7 @@ fn show(rt: &impl Print, record: &[u8], buffer: &mut [u8]) -> io::Result<()>
     }
     records::stain(buffer);
     let r = hardest::hardest_box(Column(n), Track(w), &mut buffer[..size]);
-    records::outcome_fields(rt, r)?;
+    records::refusal_fields(rt, records::refusal_told(r))?;
     field(rt, r.unwrap_or(0))?;
     last_field(rt, hash(buffer, 0))
 }

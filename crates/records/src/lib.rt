@@ -166,11 +166,6 @@ pub fn refusal_told(r: Result<usize, Refusal>) -> Refusal
     }
 }
 
-// The fields of that refusal.
-pub fn outcome_fields(rt: &impl Print, r: Result<usize, Refusal>) -> io::Result<()> {
-    refusal_fields(rt, refusal_told(r))
-}
-
 // What a buffer holds before a call writes it.
 pub const STAIN: u8 = 170;
 
