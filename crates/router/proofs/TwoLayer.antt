@@ -119,14 +119,17 @@ module _ (q : Problem) (good : Good q) (two : q.kind ≡ two_layer) where
     pub solid_found : is_none plan.moves ≡ solid p n
     solid_found = solid_told found ∙ sym solid_is
 
-    module _ (wirable : is_none plan.moves ≡ false) where
+    module _ (moved : is_none plan.moves ≡ false) where
+      pub wirable : solid p n ≡ false
+      wirable = sym solid_found ∙ moved
+
       pub given : Layable q.pins.north q.pins.south n plan
       given = record {
         channel = subst (Channel n) (sym (two_sided q bare_west bare_east)) channel_of;
         several_norths = several_norths;
         several_souths = several_souths;
         planned = found;
-        wirable = sym solid_is ∙ sym solid_found ∙ wirable;
+        wirable = sym solid_is ∙ wirable;
       }
 
       pub tracks_laid : (w : ℕ) → w ≡ op_tracks (from_north plan) (from_south plan) → w ≡ width_for (p north) (p south) n

@@ -1,8 +1,10 @@
 -- The definitions of a ticket's bytes as code passes them, one place or byte more at a time, behind what was built before.
 use Rattle.std.proofs.Common.{◌≡◌, ℕ, zero, suc, ◌+◌, ◌-◌, ◌*◌, ◌^◌, ◌≤◌, ◌<◌, ◌≢◌, ◌⊎◌, inl, inr, min, Bool, true, false, ◌&&◌, ◌||◌}
-use Rattle.std.proofs.Common.{not, eqb, leb, List, [], ◌∷◌, ◌++◌, length, get_or, drop, refl, sym, ap, ◌∙◌, add-one, arith}
-use Rattle.std.proofs.Common.{length-drop, append_assoc}
+use Rattle.std.proofs.Common.{not, eqb, leb, List, [], ◌∷◌, ◌++◌, length, get_or, take, drop, refl, sym, ap, ap₂, ◌∙◌, add-one, zero-add}
+use Rattle.std.proofs.Common.{arith, length-drop, append_assoc}
+use Rattle.std.specs.List.{list_any}
 use Rattle.std.proofs.lemmas.List.{append-nil, get_or-take, get_or-drop}
+use Rattle.std.proofs.lemmas.List.Folds.{list_any_more}
 use native.Mathlib.Decide.{dec_le}
 use native.Mathlib.Nat.{pow-suc}
 use lib.Pow.{pow_mono}
@@ -12,7 +14,10 @@ use borrow.Author.Tests.{le-leb, lt-leb, ne_eqb}
 use Rattle.counting.specs.Counting.{bit, sum, some}
 use Rattle.counting.proofs.Sums.{sum_none, sum_more, sum_past}
 use Rattle.grid.specs.Legal.{entry}
-use Rattle.ticket_bytes.specs.Bytes.{is_filled, has_pins, map_byte, nets_to}
+use Rattle.ticket_sides.specs.Format.{map_bytes, values_from}
+use Rattle.ticket.proofs.Filled.{values_none, values_more}
+use Rattle.ticket_bytes.specs.Bytes.{is_filled, has_pins, map_byte, nets_to, side_bytes}
+use Rattle.ticket_bytes.proofs.MapAndNets as of_side
 
 -- ---- whether a side has a pin
 
@@ -32,6 +37,18 @@ module _ (l : List ℕ) where
   pub found_all : (p : ℕ) → some (is_filled (entry l)) p ≡ has_pins (entry l) p
   unfolding has_pins
   found_all p = refl
+
+-- the same of the pins as a list
+some_filled : (l : List ℕ) (p : ℕ) → p ≤ length l → list_any (λ x. not (eqb x 0)) (take p l) ≡ some (is_filled (entry l)) p
+unfolding some
+some_filled l zero h = refl
+some_filled l (suc p) h =
+    rw (← add-one p) (list_any_more (λ x. not (eqb x 0)) l p 0 (omega arith))
+    ∙ ap₂ (λ (a b : Bool). a || b) (some_filled l p (omega arith)) (filled (get_or l p 0))
+
+pub any_pins : (l : List ℕ) (p : ℕ) → p ≤ length l → list_any (λ x. not (eqb x 0)) (take p l) ≡ has_pins (entry l) p
+unfolding has_pins
+any_pins l p h = some_filled l p h
 
 -- ---- a byte of the map
 
@@ -101,6 +118,13 @@ module _ (l : List ℕ) (p j end : ℕ) (cut : end ≡ min p (8 * j + 8)) (long 
 
 -- ---- the map, and the net numbers
 
+pub values_start : (l : List ℕ) (f : ℕ → ℕ) → l ++ values_from f 0 0 ≡ l
+values_start l f = rw values_none (append-nil l)
+
+pub values_step : (l : List ℕ) (f : ℕ → ℕ) (k : ℕ) → l ++ values_from f 0 (k + 1) ≡ l ++ values_from f 0 k ++ f k ∷ []
+values_step l f k =
+    ap (λ (x : List ℕ). l ++ x) (values_more f 0 k (ap f (sym (zero-add k)))) ∙ sym (append_assoc l (values_from f 0 k) (f k ∷ []))
+
 pub nets_start : (before l : List ℕ) → before ++ nets_to (entry l) 0 ≡ before
 unfolding nets_to
 nets_start before l = append-nil before
@@ -113,3 +137,13 @@ module _ (before l : List ℕ) (i : ℕ) where
   pub nets_same : get_or l i 0 ≡ 0 → before ++ nets_to (entry l) (i + 1) ≡ before ++ nets_to (entry l) i
   unfolding nets_to
   nets_same h = rw (add-one i, lt-leb 1 (get_or l i 0) (omega arith), append-nil)
+
+-- ---- a side
+
+pub side_standing : (before : List ℕ) (f : ℕ → ℕ) (p : ℕ) → has_pins f p ≡ true
+    → before ++ side_bytes f p ≡ before ++ values_from (map_byte f p) 0 (map_bytes p) ++ nets_to f p
+side_standing before f p h =
+    rw (of_side.side_standing f p h) (sym (append_assoc before (values_from (map_byte f p) 0 (map_bytes p)) (nets_to f p)))
+
+pub side_missing : (before : List ℕ) (f : ℕ → ℕ) (p : ℕ) → has_pins f p ≡ false → before ++ side_bytes f p ≡ before
+side_missing before f p h = rw (of_side.side_missing f p h) (append-nil before)
